@@ -21,10 +21,10 @@ import time
 TOP = pathlib.Path(__file__).resolve().parent.parent
 sys.path.insert(0, str(TOP / "clients" / "python" / "src"))
 
+from xqs.incoming import incoming  # noqa: E402
 from xqs.load import XML_FILES, Search  # noqa: E402
-from xqs.stores import chunks_of, xml_parts  # noqa: E402
 from xqs.temporary import Temporary  # noqa: E402
-from xqs.xml_in import XmlChoices, XmlFault, XmlReader  # noqa: E402
+from xqs.xml_in import XmlChoices, XmlFault  # noqa: E402
 from xqs.xml_names import Names  # noqa: E402
 
 
@@ -32,13 +32,13 @@ def read(search: Search) -> tuple[int, int]:
     """Makes the requests of all files; how many files are taken, and how many nodes they have."""
     taken = nodes = 0
     for file in search.found:
-        reader = XmlReader(file.path, Temporary(), XmlChoices(Names.FLAT))
         try:
             with open(file.place, "rb") as data:
-                list(xml_parts(reader, chunks_of(data)))
+                document = incoming(data, file.path, Temporary(), XmlChoices(Names.FLAT))
+                list(document.parts())
         except XmlFault:
             continue
-        taken, nodes = taken + 1, nodes + reader.nodes
+        taken, nodes = taken + 1, nodes + document.nodes
     return taken, nodes
 
 

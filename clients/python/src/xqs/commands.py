@@ -8,22 +8,18 @@ from dataclasses import replace
 from pathlib import Path
 from typing import BinaryIO
 
-from xqs import places
+from xqs import places, stores
 from xqs.cli import connected, connection_options
 from xqs.client import Client
 from xqs.constructors import write_constructors
 from xqs.errors import Refused
 from xqs.fetch import document_events
 from xqs.load import xml_choices, xml_options
-from xqs.prefixed import FlatQuery, flattened, prefixed_text
+from xqs.prefixed import FlatQuery, flattened, prefixed_events, prefixed_text
 from xqs.queries import q
-from xqs.stores import chunks_of, store_xml
 from xqs.values import values
 from xqs.xml_in import XmlChoices
 from xqs.xml_out import FLAT, KEEP, write_document, xml
-
-_LEADING_XML = (b"<", b"\xef\xbb\xbf", b"\xff\xfe", b"\xfe\xff")
-
 
 def _words(name: str, description: str) -> argparse.ArgumentParser:
     return argparse.ArgumentParser(
@@ -98,16 +94,8 @@ def store(words: Sequence[str]) -> int:
 def store_file(
     client: Client, address: str, file: BinaryIO, source: str, choices: XmlChoices
 ) -> str:
-    """Stores what the file holds, XML where it begins with `<` or a byte order mark, else a query;
-    `stored` or `replaced`. Errors as of `store_xml` and `Client.store`."""
-    first = b""
-    while not first.strip() and (piece := file.read(1 << 16)):
-        first += piece
-    if first.lstrip().startswith(_LEADING_XML):
-        chunks = (it for some in ([first], chunks_of(file)) for it in some)
-        replaced = store_xml(client, address, chunks, source, choices).replaced
-    else:
-        replaced = client.store(address, (first + file.read()).decode())
+    """Stores what a file holds, as `stores.store_file`; `stored` or `replaced`."""
+    replaced = stores.store_file(client, address, file, source, choices).replaced
     return "replaced" if replaced else "stored"
 
 
@@ -122,7 +110,7 @@ def get(words: Sequence[str]) -> int:
         if given.xml:
             write_document(steps, sys.stdout.write, given.names)
         else:
-            write_constructors(steps, sys.stdout.write)
+            write_constructors(prefixed_events(steps, given.names), sys.stdout.write)
             print()
     return 0
 

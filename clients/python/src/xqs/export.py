@@ -14,6 +14,7 @@ from xqs.constructors import write_constructors
 from xqs.errors import ReplyError
 from xqs.fetch import document_events
 from xqs.paths import NoPath, path_of
+from xqs.prefixed import prefixed_events
 from xqs.temporary import is_temporary
 from xqs.values import Event
 from xqs.xml_out import FLAT, KEEP, NotXml, write_document
@@ -85,7 +86,7 @@ class Exporter:
         if self._form == "xml":
             write_document(events, write, self._names)
         else:
-            write_constructors(events, write)
+            write_constructors(prefixed_events(events, self._names), write)
             write("\n")
 
 

@@ -5,7 +5,7 @@ import json
 import os
 import stat
 import sys
-from collections.abc import Iterable, Iterator, Sequence
+from collections.abc import Iterable, Sequence
 from dataclasses import dataclass, field
 from fnmatch import fnmatch
 from pathlib import Path
@@ -13,15 +13,15 @@ from pathlib import Path
 from xqs.cli import connected, connection_options, is_lasting, server_of
 from xqs.client import Client
 from xqs.errors import Closed, Wanting, XqError
+from xqs.incoming import incoming
 from xqs.journal import Journal, default_place
-from xqs.parts import Part
 from xqs.paths import address_of
 from xqs.progress import Progress
 from xqs.protocol import address_bytes
-from xqs.stores import Sender, chunks_of, xml_parts
+from xqs.stores import Sender
 from xqs.temporary import Temporary, is_temporary
 from xqs.window import Window
-from xqs.xml_in import XmlChoices, XmlReader
+from xqs.xml_in import XmlChoices
 from xqs.xml_names import Names
 
 STORED = "stored"
@@ -143,24 +143,16 @@ class Loader:
             else:
                 self._note(file, answer)
 
-        temporary = Temporary()
+        temporary = Temporary(self._journal.add_temporary) if self._journal else Temporary()
         try:
             address = address_of(file.path, self._prefix)
-            reader = XmlReader(file.path, temporary, self._choices)
             with open(file.place, "rb") as data:
-                parts = self._noted(xml_parts(reader, chunks_of(data)), temporary)
-                self._sender.send(address, parts, lambda: reader.whole, temporary, done)
+                document = incoming(data, file.path, temporary, self._choices)
+                self._sender.send(address, document, temporary, done)
         except Closed:
             raise
         except (XqError, ValueError, OSError) as error:
             self._note(file, error)
-
-    def _noted(self, parts: Iterator[Part], temporary: Temporary) -> Iterator[Part]:
-        """The parts; that there are some goes to the journal before the first one is sent."""
-        for number, part in enumerate(parts):
-            if number == 0 and self._journal:
-                self._journal.add_temporary(temporary.start)
-            yield part
 
     def _note(self, file: Found, answer: str | BaseException) -> None:
         is_refused = isinstance(answer, BaseException)

@@ -21,9 +21,11 @@ from dataclasses import dataclass, replace
 
 from xqs.constructors import write_constructors
 from xqs.errors import XqError
+from xqs.faults import line_and_column
 from xqs.tokens import Token, tokens
 from xqs.values import Event, Item, Leaf, Node, Open, events
-from xqs.xml_names import NAMESPACE, NameFault, Names, incoming, outgoing
+from xqs.xml_names import FLAT_COLON, NAMESPACE, NameFault, Names, incoming, outgoing
+from xqs.xml_out import FLAT
 
 _WILDCARDS = {
     "p:*": 'names by prefix are *[starts-with(name(), "p__")]',
@@ -35,7 +37,7 @@ class PrefixFault(XqError, ValueError):
     """A name of a query that no flat name stands for; `at` is its place in the text, from 0."""
 
     def __init__(self, text: str, at: int, why: str) -> None:
-        line, column = text.count("\n", 0, at) + 1, at - text.rfind("\n", 0, at)
+        line, column = line_and_column(text, at)
         super().__init__(f"{line}:{column}: {why}")
         self.at, self.why = at, why
 
@@ -125,10 +127,11 @@ def prefixed(item: Item) -> Item:
     )
 
 
-def prefixed_events(steps: Iterable[Event]) -> Iterator[Event]:
-    """The events of a result with prefixes in place of flat names."""
+def prefixed_events(steps: Iterable[Event], names: str = FLAT) -> Iterator[Event]:
+    """The events of a result with prefixes in place of flat names; as they are where `names` are
+    not flat."""
     for event in steps:
-        if isinstance(event, Open | Leaf) and "__" in event.name:
+        if names == FLAT and isinstance(event, Open | Leaf) and FLAT_COLON in event.name:
             yield replace(event, name=outgoing(event.name))
         else:
             yield event
@@ -136,7 +139,7 @@ def prefixed_events(steps: Iterable[Event]) -> Iterator[Event]:
 
 def prefixed_text(printed: str) -> str:
     """A printed result with prefixes in place of flat names; Misspelt where it is none."""
-    if "__" not in printed:
+    if FLAT_COLON not in printed:
         return printed
     pieces: list[str] = []
     write_constructors(prefixed_events(events(printed)), pieces.append)

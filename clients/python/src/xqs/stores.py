@@ -6,23 +6,31 @@ requests out in the order in which they come: where a part is refused, so is the
 it, and no document has changed.
 """
 
-from collections.abc import Callable, Iterable, Iterator
+from collections.abc import Callable, Iterable
 from concurrent.futures import Future
 from dataclasses import dataclass
 from typing import BinaryIO
 
 from xqs.aio import AsyncClient
 from xqs.client import Client
+from xqs.constructor_reader import ConstructorReader
 from xqs.errors import Closed, XqError
-from xqs.parts import DocumentText, Part
+from xqs.incoming import (
+    ConstructorDocument,
+    Incoming,
+    PrintedDocument,
+    XmlDocument,
+    chunks_of,
+    incoming,
+)
 from xqs.requests import store_of
 from xqs.temporary import Temporary, check_lasting
-from xqs.values import Close, Event, NodeKind, Open, events
+from xqs.values import events
 from xqs.window import Window
 from xqs.xml_in import XmlChoices, XmlReader
 
-CHUNK, LONGEST_CHUNK = 1 << 16, 1 << 24
-"""So many bytes of a file are read at once, at least and at most."""
+__all__ = ["Sender", "Stored", "chunks_of", "store_again", "store_constructors", "store_file",
+           "store_xml", "store_xml_async"]
 
 
 @dataclass
@@ -35,47 +43,6 @@ class Stored:
     parts: int
 
 
-def chunks_of(file: BinaryIO) -> Iterator[bytes]:
-    """The bytes of a file, piece by piece.
-
-    Pieces grow with what was read: the parser looks at a comment or a tag that is not whole from
-    its beginning with each piece, and would take the square of its length over pieces of one size.
-    """
-    total = 0
-    while piece := file.read(min(max(CHUNK, total // 4), LONGEST_CHUNK)):
-        total += len(piece)
-        yield piece
-
-
-def xml_parts(reader: XmlReader, chunks: Iterable[bytes]) -> Iterator[Part]:
-    """The parts of a document of XML, to be stored in this order; XmlFault where it is refused."""
-    for chunk in chunks:
-        yield from reader.feed(chunk)
-    yield from reader.close()
-
-
-def constructor_parts(document: DocumentText, steps: Iterable[Event]) -> Iterator[Part]:
-    """The parts of a document of printed nodes.
-
-    ValueError where they are not one document, or it has too many nodes or too deep ones.
-    """
-    rest = iter(steps)
-    _expect(next(rest, None) == Open(NodeKind.DOCUMENT, ""))
-    depth = 1
-    for event in rest:
-        _expect(depth > 0)
-        depth += isinstance(event, Open) - isinstance(event, Close)
-        if depth:
-            document.event(event)
-        yield from document.take_parts()
-    _expect(depth == 0)
-
-
-def _expect(holds: bool) -> None:
-    if not holds:
-        raise ValueError("what is to be stored is not exactly one document")
-
-
 class Sender:
     """Sends the requests of documents ahead, through one window."""
 
@@ -86,16 +53,15 @@ class Sender:
     def send(
         self,
         address: str,
-        parts: Iterable[Part],
-        whole: Callable[[], str],
+        document: Incoming,
         temporary: Temporary,
         done: Callable[[str | BaseException], None],
     ) -> None:
-        """Sends the parts, then the store of the whole, then the drops of the parts.
+        """Sends the parts of a document, the document itself, and drops of the parts.
 
-        `whole` is asked once the parts are used up. `done` is called with the answer to the store,
-        or with the error of the first request that failed, once the store has its reply.
-        What `parts` and `whole` raise goes to the caller, after the parts are dropped.
+        `done` is called with the reply of the store, or with the error of it or of a part. An error
+        in reading the document leaves this, and then `done` is not called; parts that were sent are
+        dropped.
         """
         failures: list[BaseException] = []
 
@@ -109,9 +75,9 @@ class Sender:
             done(failures[0] if failures else future.result())
 
         try:
-            for part in parts:
+            for part in document.parts():
                 self._store(part.address, part.text, noted)
-            self._store(address, whole(), ended)
+            self._store(address, document.whole(), ended)
         finally:
             self._drop(temporary.given())
 
@@ -132,21 +98,17 @@ def _ignore(_: Future[str]) -> None:
 
 
 def _send_and_wait(
-    client: Client,
-    address: str,
-    parts: Iterable[Part],
-    whole: Callable[[], str],
-    temporary: Temporary,
-) -> str:
+    client: Client, address: str, document: Incoming, temporary: Temporary
+) -> Stored:
     window, answers = Window(), list[str | BaseException]()
     try:
-        Sender(client, window).send(address, parts, whole, temporary, answers.append)
+        Sender(client, window).send(address, document, temporary, answers.append)
     finally:
         window.drain()
     [answer] = answers
     if isinstance(answer, BaseException):
         raise answer
-    return answer
+    return Stored(answer == "replaced", document.nodes, temporary.count)
 
 
 def store_xml(
@@ -155,38 +117,54 @@ def store_xml(
     chunks: Iterable[bytes],
     source: str = "XML",
     choices: XmlChoices = XmlChoices(),  # noqa: B008 (it is frozen)
+    charset: str | None = None,
 ) -> Stored:
     """Stores a document of XML whose bytes come in any pieces.
 
     XmlFault where it is not well-formed or refused, KeptAddress where the address is kept for
-    parts, Refused and Wanting as the server says; `source` is how messages call the text.
+    parts, Refused and Wanting as the server says. `source` is how messages call the text, `charset`
+    that of its transport.
     """
     check_lasting(address)
     temporary = Temporary()
-    reader = XmlReader(source, temporary, choices)
-    answer = _send_and_wait(
-        client, address, xml_parts(reader, chunks), lambda: reader.whole, temporary
-    )
-    return Stored(answer == "replaced", reader.nodes, temporary.count)
+    document = XmlDocument(chunks, XmlReader(source, temporary, choices, charset))
+    return _send_and_wait(client, address, document, temporary)
 
 
-def store_constructors(client: Client, address: str, text: str) -> Stored:
-    """Stores a document of printed constructors, of any length.
+def store_file(
+    client: Client,
+    address: str,
+    file: BinaryIO,
+    source: str = "file",
+    choices: XmlChoices = XmlChoices(),  # noqa: B008 (it is frozen)
+    charset: str | None = None,
+) -> Stored:
+    """Stores what a file holds: XML, or a query that gives the document, which has constructors
+    alone where it is too long for a request. Errors as of `store_xml`, and PlacedFault."""
+    check_lasting(address)
+    temporary = Temporary()
+    document = incoming(file, source, temporary, choices, charset)
+    return _send_and_wait(client, address, document, temporary)
 
-    Misspelt (a ValueError) where the text is not as the server prints it, ValueError where it is
-    not one document that the server takes, KeptAddress where the address is kept for parts.
+
+def store_constructors(client: Client, address: str, text: str, source: str = "text") -> Stored:
+    """Stores a document of constructors, of any length, as they are written or printed.
+
+    PlacedFault (a ValueError) where the text is not one document of constructors that the server
+    takes, KeptAddress where the address is kept for parts.
     """
     check_lasting(address)
-    return store_again(client, address, text)
+    temporary = Temporary()
+    document = ConstructorDocument(ConstructorReader(text, source), temporary)
+    return _send_and_wait(client, address, document, temporary)
 
 
 def store_again(client: Client, address: str, text: str) -> Stored:
-    """As `store_constructors`, at any address: a backup may hold parts."""
+    """Stores what the server has printed, at any address: a backup may hold parts. Misspelt, or
+    another ValueError, where the server has not."""
     temporary = Temporary()
-    document = DocumentText(temporary)
-    parts = constructor_parts(document, events(text))
-    answer = _send_and_wait(client, address, parts, document.whole, temporary)
-    return Stored(answer == "replaced", document.nodes, temporary.count)
+    document = PrintedDocument(events(text), temporary)
+    return _send_and_wait(client, address, document, temporary)
 
 
 async def store_xml_async(
@@ -195,18 +173,19 @@ async def store_xml_async(
     chunks: Iterable[bytes],
     source: str = "XML",
     choices: XmlChoices = XmlChoices(),  # noqa: B008 (it is frozen)
+    charset: str | None = None,
 ) -> Stored:
     """As `store_xml`, for asyncio; each part is waited for."""
     check_lasting(address)
     temporary = Temporary()
-    reader = XmlReader(source, temporary, choices)
+    document = XmlDocument(chunks, XmlReader(source, temporary, choices, charset))
     try:
-        for part in xml_parts(reader, chunks):
+        for part in document.parts():
             await client.request(store_of(part.address, part.text))
-        replaced = await client.store(address, reader.whole)
+        replaced = await client.store(address, document.whole())
     finally:
         await _drop_async(client, temporary.given())
-    return Stored(replaced, reader.nodes, temporary.count)
+    return Stored(replaced, document.nodes, temporary.count)
 
 
 async def _drop_async(client: AsyncClient, addresses: list[str]) -> None:

@@ -3,6 +3,7 @@
 import os
 import re
 import time
+from collections.abc import Callable
 
 from xqs.errors import XqError
 
@@ -14,12 +15,16 @@ _ADDRESS = re.compile(re.escape(PREFIX) + r"(\d{1,12})-[0-9a-f]+/\d+")
 class Temporary:
     """A series of addresses that no other series has."""
 
-    def __init__(self) -> None:
+    def __init__(self, begins: Callable[[str], object] = str) -> None:
+        """`begins` is called with how they begin, before the first one is given."""
         self.start = f"{PREFIX}{int(time.time())}-{os.urandom(6).hex()}/"
         self.count = 0
+        self._begins = begins
 
     def next(self) -> str:
         """An address that was not given before."""
+        if not self.count:
+            self._begins(self.start)
         self.count += 1
         return f"{self.start}{self.count}"
 

@@ -55,9 +55,15 @@ def _token_at(text: str, at: int) -> Token:
 
 
 def _comment(text: str, start: int) -> Token:
+    end = comment_end(text, start)
+    return Token("open comment" if end is None else "comment", start, text[start:end])
+
+
+def comment_end(text: str, start: int) -> int | None:
+    """Where the comment ends that begins there; None where it doesn't end."""
     depth = 0
     for found in _COMMENT_MARK.finditer(text, start):
         depth += 1 if found[0] == "(:" else -1
         if depth == 0:
-            return Token("comment", start, text[start : found.end()])
-    return Token("open comment", start, text[start:])
+            return found.end()
+    return None

@@ -9,7 +9,7 @@ from dataclasses import dataclass
 from typing import NoReturn
 from xml.parsers import expat
 
-from xqs.errors import XqError
+from xqs.faults import PlacedFault
 from xqs.parts import DocumentText, Part, TooLarge
 from xqs.temporary import Temporary
 from xqs.xml_decoding import EncodingFault, Utf8
@@ -39,12 +39,8 @@ class XmlChoices:
     entities: bool = False
 
 
-class XmlFault(XqError, ValueError):
+class XmlFault(PlacedFault):
     """XML that is not well-formed, or that is refused; with its place, counted from 1."""
-
-    def __init__(self, source: str, line: int, column: int, why: str) -> None:
-        super().__init__(f"{source}:{line}:{column}: {why}")
-        self.source, self.line, self.column, self.why = source, line, column, why
 
 
 class XmlReader:

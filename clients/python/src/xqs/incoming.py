@@ -1,0 +1,190 @@
+"""What a file gives to be stored: XML, a query, or constructors of any length.
+
+A file is judged as a whole before the first part of it is sent, where it can be read twice.
+"""
+
+from collections.abc import Iterable, Iterator
+from io import SEEK_END
+from typing import BinaryIO, Protocol
+
+from xqs.constructor_reader import NOT_ONE, ConstructorReader
+from xqs.faults import PlacedFault, line_and_column
+from xqs.parts import PART_BYTES, DocumentText, Part, TooLarge
+from xqs.prefixed import PrefixFault, flat_query
+from xqs.protocol import MAX_ADDRESS, MAX_REQUEST
+from xqs.temporary import Temporary
+from xqs.values import Close, Event, NodeKind, Open
+from xqs.xml_in import XmlChoices, XmlReader
+from xqs.xml_judge import judge_xml
+from xqs.xml_names import Names
+
+CHUNK, LONGEST_CHUNK = 1 << 16, 1 << 24
+"""So many bytes of a file are read at once, at least and at most."""
+MAX_QUERY = MAX_REQUEST - MAX_ADDRESS - 6
+"""A store has room for so many bytes of a query, whatever its address."""
+_XML = (b"<", b"\xef\xbb\xbf<", b"\xff\xfe", b"\xfe\xff", b"\0<", b"\0\0\0<", b"\0\0\xfe\xff",
+        b"\x4c\x6f\xa7\x94")
+"""How XML begins, in each encoding."""
+_MARK = b"\xef\xbb\xbf"
+
+
+class Incoming(Protocol):
+    """A document on its way in."""
+
+    @property
+    def nodes(self) -> int:
+        """How many nodes have been read; 0 of a query, whose nodes the server makes."""
+
+    def parts(self) -> Iterator[Part]:
+        """What has to be stored first, in this order; PlacedFault where the text is refused."""
+
+    def whole(self) -> str:
+        """The text that makes the document, once the parts have been taken."""
+
+
+def chunks_of(file: BinaryIO) -> Iterator[bytes]:
+    """The bytes of a file, piece by piece.
+
+    Pieces grow with what was read: the parser looks at a comment or a tag that is not whole from
+    its beginning with each piece, and would take the square of its length over pieces of one size.
+    """
+    total = 0
+    while piece := file.read(min(max(CHUNK, total // 4), LONGEST_CHUNK)):
+        total += len(piece)
+        yield piece
+
+
+class XmlDocument:
+    """A document of XML whose bytes come in any pieces."""
+
+    def __init__(self, chunks: Iterable[bytes], reader: XmlReader) -> None:
+        self._chunks, self._reader = chunks, reader
+
+    @property
+    def nodes(self) -> int:
+        return self._reader.nodes
+
+    def parts(self) -> Iterator[Part]:
+        for chunk in self._chunks:
+            yield from self._reader.feed(chunk)
+        yield from self._reader.close()
+
+    def whole(self) -> str:
+        return self._reader.whole
+
+
+class QueryDocument:
+    """A query that gives the document, and fits a request."""
+
+    nodes = 0
+
+    def __init__(self, text: str) -> None:
+        self._text = text
+
+    def parts(self) -> Iterator[Part]:
+        return iter(())
+
+    def whole(self) -> str:
+        return self._text
+
+
+class PrintedDocument:
+    """A document whose events come one after the other, as of what the server has printed."""
+
+    def __init__(self, steps: Iterable[Event], temporary: Temporary) -> None:
+        self._steps = steps
+        self._document = DocumentText(temporary)
+
+    @property
+    def nodes(self) -> int:
+        return self._document.nodes
+
+    def parts(self) -> Iterator[Part]:
+        return constructor_parts(self._document, self._steps)
+
+    def whole(self) -> str:
+        return self._document.whole()
+
+
+class ConstructorDocument(PrintedDocument):
+    """A document of constructors, of any length; all is read before the first part is given."""
+
+    def __init__(self, reader: ConstructorReader, temporary: Temporary) -> None:
+        super().__init__(reader, temporary)
+        self._reader = reader
+
+    def parts(self) -> Iterator[Part]:
+        try:
+            return iter(list(super().parts()))
+        except TooLarge as error:
+            raise self._reader.fault(str(error)) from None
+
+
+def constructor_parts(document: DocumentText, steps: Iterable[Event]) -> Iterator[Part]:
+    """The parts of a document of printed nodes.
+
+    ValueError where they are not one document, or it has too many nodes or too deep ones.
+    """
+    rest = iter(steps)
+    _expect(next(rest, None) == Open(NodeKind.DOCUMENT, ""))
+    depth = 1
+    for event in rest:
+        _expect(depth > 0)
+        depth += isinstance(event, Open) - isinstance(event, Close)
+        if depth:
+            document.event(event)
+        yield from document.take_parts()
+    _expect(depth == 0)
+
+
+def _expect(holds: bool) -> None:
+    if not holds:
+        raise ValueError(NOT_ONE)
+
+
+def incoming(
+    file: BinaryIO,
+    source: str,
+    temporary: Temporary,
+    choices: XmlChoices = XmlChoices(),  # noqa: B008 (it is frozen)
+    charset: str | None = None,
+) -> Incoming:
+    """The document that a file gives; PlacedFault where it is refused, as far as that is seen.
+
+    It is XML where it begins so, else a query. `source` is how messages call it, and `charset` that
+    of its transport.
+    """
+    first = b""
+    while not first.strip() and (piece := file.read(CHUNK)):
+        first += piece
+    if not first.lstrip().startswith(_XML):
+        return _query(first + file.read(), source, temporary, choices.names)
+    if file.seekable() and (start := file.tell() - len(first)) >= 0:
+        if file.seek(0, SEEK_END) - start > PART_BYTES:
+            file.seek(start)
+            judge_xml(source, chunks_of(file), choices, charset)
+        file.seek(start)
+        first = b""
+    chunks = (it for some in ([first], chunks_of(file)) for it in some)
+    return XmlDocument(chunks, XmlReader(source, temporary, choices, charset))
+
+
+def _query(data: bytes, source: str, temporary: Temporary, names: Names) -> Incoming:
+    text = _decoded(data.removeprefix(_MARK), source)
+    if len(data) > MAX_QUERY:
+        return ConstructorDocument(ConstructorReader(text, source, names), temporary)
+    if names is not Names.FLAT:
+        return QueryDocument(text)
+    try:
+        return QueryDocument(flat_query(text))
+    except PrefixFault as error:
+        raise PlacedFault(source, *line_and_column(text, error.at), error.why) from None
+
+
+def _decoded(data: bytes, source: str) -> str:
+    try:
+        return data.decode()
+    except UnicodeDecodeError as error:
+        before = data[: error.start].decode()
+        place = line_and_column(before, len(before))
+        raise PlacedFault(source, *place, "these bytes are no utf-8") from None
