@@ -14,12 +14,18 @@ from xqs.client import Client
 from xqs.constructors import write_constructors
 from xqs.errors import Refused
 from xqs.fetch import document_events
+from xqs.folders import below, is_pattern, matching, with_folders
 from xqs.load import xml_choices, xml_options
-from xqs.prefixed import FlatQuery, flattened, prefixed_events, prefixed_text
+from xqs.prefixed import flattened, prefixed_events, prefixed_text
 from xqs.queries import q
+from xqs.rewriting import Rewritten
 from xqs.values import values
 from xqs.xml_in import XmlChoices
 from xqs.xml_out import FLAT, KEEP, write_document, xml
+
+SHOWN = 5
+"""So many addresses stand in a question."""
+
 
 def _words(name: str, description: str) -> argparse.ArgumentParser:
     return argparse.ArgumentParser(
@@ -40,17 +46,22 @@ def query(words: Sequence[str]) -> int:
     parser.add_argument("query", help="the text, or - to read it from standard input")
     parser.add_argument("--set", action="append", default=[], metavar="NAME=TEXT",
                         help="a string for the variable of that name")
+    parser.add_argument("--in", dest="folder", metavar="FOLDER",
+                        help="collection() has the documents of this folder alone")
     out_options(parser)
     given = parser.parse_args(words)
     text = sys.stdin.read() if given.query == "-" else given.query
-    written = flattened(text) if given.names == FLAT else FlatQuery(text)
-    bound = q(written.text, **dict(_setting(it) for it in given.set))
+    settings = dict(_setting(it) for it in given.set)
+    flat = flattened(text) if given.names == FLAT else Rewritten(text)
     with connected(given) as client:
+        asked = with_folders(flat.text, given.folder, client.list)
+        if given.folder is not None and not below(client.list(), given.folder):
+            print(f"xqs query: no document is below {given.folder}", file=sys.stderr)
         try:
-            answer = client.query_text(bound)
+            answer = client.query_text(q(asked.text, **settings))
         except Refused as error:
             print(f"xqs query: {error}", file=sys.stderr)
-            print(_place(text, written, error.code), end="", file=sys.stderr)
+            print(_place(text, flat, asked, error.code), end="", file=sys.stderr)
             return 1
     if given.xml:
         answer = "\n".join(xml(it, given.names) for it in values(answer))
@@ -60,10 +71,12 @@ def query(words: Sequence[str]) -> int:
     return 0
 
 
-def _place(text: str, written: FlatQuery, code: str) -> str:
-    """The place in the text that explains a refusal of the query that it was written as."""
-    place = places.find(written.text, code)
-    return places.marked(text, replace(place, at=written.place(place.at))) if place else ""
+def _place(text: str, flat: Rewritten, asked: Rewritten, code: str) -> str:
+    """The place in the text that explains a refusal of the query that it was rewritten as."""
+    place = places.find(asked.text, code)
+    if place is None:
+        return ""
+    return places.marked(text, replace(place, at=flat.place(asked.place(place.at))))
 
 
 def _setting(text: str) -> tuple[str, str]:
@@ -117,26 +130,57 @@ def get(words: Sequence[str]) -> int:
 
 def drop(words: Sequence[str]) -> int:
     """Drops documents."""
-    parser = _words("drop", "Drops documents, each by its address.")
-    parser.add_argument("address", nargs="+")
+    parser = _words("drop", "Drops documents, each by its address, or all that match a pattern.")
+    parser.add_argument("address", nargs="+", help="an address, or a pattern such as 'books/*': * "
+                        "stands for any characters, slashes too, ? for one, [ab] for one of these")
+    parser.add_argument("--yes", action="store_true", help="don't ask before a pattern's go")
     given = parser.parse_args(words)
-    status = 0
     with connected(given) as client:
-        for address in given.address:
+        found, status = _asked(client, given.address), 0
+        if any(map(is_pattern, given.address)) and found and not given.yes and not _agreed(found):
+            print("xqs drop: nothing is dropped", file=sys.stderr)
+            return 1
+        for word in (it for it in given.address if is_pattern(it) and not matching(found, it)):
+            print(f"xqs drop: {word}: no document has such an address", file=sys.stderr)
+            status = 1
+        for address, future in [(it, client.drop_later(it)) for it in found]:
             try:
-                client.drop(address)
+                future.result()
             except Refused as error:
                 print(f"xqs drop: {address}: {error}", file=sys.stderr)
                 status = 1
     return status
 
 
+def _asked(client: Client, words: Sequence[str]) -> list[str]:
+    """The addresses that are given, and those that match the patterns, each once."""
+    known = client.list() if any(map(is_pattern, words)) else []
+    found = (matching(known, it) if is_pattern(it) else [it] for it in words)
+    return list(dict.fromkeys(it for some in found for it in some))
+
+
+def _agreed(addresses: Sequence[str]) -> bool:
+    """Asks whether documents are to be dropped; ValueError where nobody can be asked."""
+    count = len(addresses)
+    shown = ", ".join(addresses[:SHOWN])
+    shown += f", and {count - SHOWN:,} more" if count > SHOWN else ""
+    if not sys.stdin.isatty():
+        raise ValueError(f"{count:,} documents would be dropped ({shown}); nobody can be asked "
+                         "here, so say --yes")
+    print(f"{shown}\ndrop {count:,} document{'s' * (count != 1)}? [y/N] ", end="", file=sys.stderr,
+          flush=True)
+    return sys.stdin.readline().strip().lower() in ("y", "yes")
+
+
 def list_addresses(words: Sequence[str]) -> int:
     """Prints the addresses."""
     parser = _words("list", "Prints the addresses, one a line.")
-    parser.add_argument("prefix", nargs="?", default="", help="those alone that begin so")
+    parser.add_argument("prefix", nargs="?", default="",
+                        help="those alone that begin so, or match a pattern such as 'books/*.xml'")
     given = parser.parse_args(words)
     with connected(given) as client:
-        addresses = [it for it in client.list() if it.startswith(given.prefix)]
-    sys.stdout.write("".join(f"{it}\n" for it in addresses))
+        known = client.list()
+    wanted = matching(known, given.prefix) if is_pattern(given.prefix) else [
+        it for it in known if it.startswith(given.prefix)]
+    sys.stdout.write("".join(f"{it}\n" for it in wanted))
     return 0

@@ -17,11 +17,12 @@ called, as `xs:integer(..)`. Prefixes are compared, and no URIs.
 """
 
 from collections.abc import Iterable, Iterator
-from dataclasses import dataclass, replace
+from dataclasses import replace
 
 from xqs.constructors import write_constructors
 from xqs.errors import XqError
 from xqs.faults import line_and_column
+from xqs.rewriting import Rewritten, rewrite
 from xqs.tokens import Token, tokens
 from xqs.values import Event, Item, Leaf, Node, Open, events
 from xqs.xml_names import FLAT_COLON, NAMESPACE, NameFault, Names, incoming, outgoing
@@ -42,23 +43,6 @@ class PrefixFault(XqError, ValueError):
         self.at, self.why = at, why
 
 
-@dataclass(frozen=True)
-class FlatQuery:
-    """A query with flat names, and where each of them ends in it with how much longer it is."""
-
-    text: str
-    _grown: tuple[tuple[int, int], ...] = ()
-
-    def place(self, at: int) -> int:
-        """The place in the text as it was written of a place in this one."""
-        shorter = 0
-        for end, by in self._grown:
-            if end > at:
-                return min(at - shorter, end - shorter - by)
-            shorter += by
-        return at - shorter
-
-
 def flat_query(text: str) -> str:
     """The query with flat names in place of names with a prefix, and of `xmlns`.
 
@@ -68,18 +52,10 @@ def flat_query(text: str) -> str:
     return flattened(text).text
 
 
-def flattened(text: str) -> FlatQuery:
+def flattened(text: str) -> Rewritten:
     """As `flat_query`, with the places."""
-    pieces: list[str] = []
-    grown: list[tuple[int, int]] = []
-    at = length = 0
-    for token in _node_names(text):
-        name = _flat_name(text, token)
-        pieces += [text[at : token.at], name]
-        length += token.at - at + len(name)
-        at = token.at + len(token.text)
-        grown.append((length, len(name) - len(token.text)))
-    return FlatQuery("".join([*pieces, text[at:]]), tuple(grown))
+    return rewrite(text, (
+        (it.at, it.at + len(it.text), _flat_name(text, it)) for it in _node_names(text)))
 
 
 def _flat_name(text: str, token: Token) -> str:
