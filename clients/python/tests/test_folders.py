@@ -28,7 +28,6 @@ from xqs.fetch import document_events
 from xqs.gc import collect
 from xqs.journal import Journal
 from xqs.paths import NoPath, address_of, path_of
-from xqs.progress import Progress
 from xqs.stores import store_constructors, store_xml
 from xqs.temporary import PREFIX, KeptAddress
 from xqs.values import events
@@ -360,12 +359,3 @@ def file_at_start(file: io.BufferedRandom) -> io.BufferedRandom:
     """The file, to be read from its start."""
     file.seek(0)
     return file
-
-
-class ProgressLine(unittest.TestCase):
-    def test_line(self) -> None:
-        progress = Progress(4, 4_000_000, io.StringIO())
-        progress.step(1_000_000, False)
-        progress.step(1_000_000, True)
-        self.assertRegex(progress.line(),
-                         r"\A2/4 \[#{10}\.{10}\] [0-9.]+ MB/s, \d+:\d\d left; 1 refused\Z")

@@ -19,6 +19,7 @@ from xqs.cli import connected, connection_options
 from xqs.client import Client
 from xqs.errors import Refused, XqError
 from xqs.fetch import write_text
+from xqs.progress import Progress, progress_of, silent
 from xqs.stores import store_again
 from xqs.temporary import is_temporary
 
@@ -49,7 +50,9 @@ def digest_of(client: Client, address: str, is_still: bool = False) -> str:
     return digest.hexdigest()
 
 
-def back_up(client: Client, file: BinaryIO, is_still: bool = False) -> int:
+def back_up(
+    client: Client, file: BinaryIO, is_still: bool = False, progress: Progress | None = None
+) -> int:
     """Writes all documents but temporary ones; how many.
 
     With `is_still` nobody stores or drops meanwhile: then temporary ones are written too, and none
@@ -57,8 +60,12 @@ def back_up(client: Client, file: BinaryIO, is_still: bool = False) -> int:
     """
     file.write(FORM)
     addresses = _addresses(client, is_still)
+    progress = progress or silent()
+    progress.begin(len(addresses), 0)
     for address in addresses:
+        before = file.tell()
         _write_entry(client, address, file, is_still)
+        progress.step(file.tell() - before)
     file.write(f"end {len(addresses)}\n".encode())
     return len(addresses)
 
@@ -121,7 +128,9 @@ def _digest(file: BinaryIO, size: int) -> str:
     return digest.hexdigest()
 
 
-def restore(client: Client, file: BinaryIO, replace: bool) -> int:
+def restore(
+    client: Client, file: BinaryIO, replace: bool, progress: Progress | None = None
+) -> int:
     """Stores the documents of a backup, and reads each back; how many.
 
     The whole file is judged before the first document is stored. NoBackup; ValueError where an
@@ -135,22 +144,31 @@ def restore(client: Client, file: BinaryIO, replace: bool) -> int:
             f"{len(taken)} addresses have a document already, as {taken[0]}; --replace replaces "
             "them"
         )
+    progress = progress or silent()
+    progress.begin(len(wanted), sum(it.size for it in wanted))
     for entry in wanted:
         file.seek(entry.start)
         store_again(client, entry.address, file.read(entry.size).decode())
         if digest_of(client, entry.address) != entry.digest:
             raise NoBackup(f"the document {entry.address} does not read back as it was")
+        progress.step(entry.size)
     return len(wanted)
 
 
-def check_against(client: Client, file: BinaryIO, is_still: bool = False) -> list[str]:
+def check_against(
+    client: Client, file: BinaryIO, is_still: bool = False, progress: Progress | None = None
+) -> list[str]:
     """The addresses whose documents are no more as the backup has them; `is_still` as for
     `back_up`."""
-    held = {it.address: it.digest for it in entries(file)}
+    held = {it.address: it for it in entries(file)}
     now = set(_addresses(client, is_still))
-    changed = [
-        it for it in held if it in now and digest_of(client, it, is_still) != held[it]
-    ]
+    progress = progress or silent()
+    progress.begin(len(held), sum(it.size for it in held.values()))
+    changed: list[str] = []
+    for address in held.keys() & now:
+        if digest_of(client, address, is_still) != held[address].digest:
+            changed.append(address)
+        progress.step(held[address].size)
     return sorted(changed) + sorted(held.keys() ^ now)
 
 
@@ -170,11 +188,12 @@ def main(words: Sequence[str]) -> int:
     part = given.backup.with_name(given.backup.name + ".part")
     try:
         with connected(given) as client, open(part, "w+b") as file:
-            count = back_up(client, file)
-            file.flush()
-            os.fsync(file.fileno())
-            file.seek(0)
-            changed = check_against(client, file)
+            with progress_of() as progress:
+                count = back_up(client, file, progress=progress)
+                file.flush()
+                os.fsync(file.fileno())
+                file.seek(0)
+                changed = check_against(client, file, progress=progress)
         os.replace(part, given.backup)
     finally:
         part.unlink(missing_ok=True)
@@ -211,7 +230,8 @@ def restore_main(words: Sequence[str]) -> int:
     with connected(given) as client, open(given.backup, "rb") as file:
         _pass_state(file)
         try:
-            count = restore(client, file, given.replace)
+            with progress_of() as progress:
+                count = restore(client, file, given.replace, progress)
         except Refused as error:
             print(f"xqs restore: {error.request}: {error}", file=sys.stderr)
             return 1

@@ -4,6 +4,7 @@ import argparse
 import os
 import sys
 from collections.abc import Sequence
+from contextlib import nullcontext
 from dataclasses import replace
 from pathlib import Path
 from typing import BinaryIO
@@ -17,6 +18,7 @@ from xqs.fetch import document_events
 from xqs.folders import below, is_pattern, matching, with_folders
 from xqs.load import xml_choices, xml_options
 from xqs.prefixed import flattened, prefixed_events, prefixed_text
+from xqs.progress import progress_of
 from xqs.queries import q
 from xqs.rewriting import Rewritten
 from xqs.values import values
@@ -108,8 +110,10 @@ def store_file(
     client: Client, address: str, file: BinaryIO, source: str, choices: XmlChoices
 ) -> str:
     """Stores what a file holds, as `stores.store_file`; `stored` or `replaced`."""
-    replaced = stores.store_file(client, address, file, source, choices).replaced
-    return "replaced" if replaced else "stored"
+    size = os.fstat(file.fileno()).st_size
+    with progress_of(size=size) as progress:
+        stored = stores.store_file(client, address, file, source, choices, progress=progress)
+    return "replaced" if stored.replaced else "stored"
 
 
 def get(words: Sequence[str]) -> int:
@@ -119,13 +123,19 @@ def get(words: Sequence[str]) -> int:
     out_options(parser)
     given = parser.parse_args(words)
     with connected(given) as client:
-        steps = document_events(client, given.address)
-        if given.xml:
-            write_document(steps, sys.stdout.write, given.names)
-        else:
-            write_constructors(prefixed_events(steps, given.names), sys.stdout.write)
-            print()
+        _print_document(client, given.address, given.xml, given.names)
     return 0
+
+
+def _print_document(client: Client, address: str, as_xml: bool, names: str) -> None:
+    # On a terminal the document itself is seen, and a line between its parts would stand in it.
+    with nullcontext(None) if sys.stdout.isatty() else progress_of() as progress:
+        steps = document_events(client, address, progress)
+        if as_xml:
+            write_document(steps, sys.stdout.write, names)
+        else:
+            write_constructors(prefixed_events(steps, names), sys.stdout.write)
+            print()
 
 
 def drop(words: Sequence[str]) -> int:

@@ -49,6 +49,7 @@ class ConstructorReader:
     def __init__(self, text: str, source: str, names: Names = Names.REFUSE) -> None:
         """`source` is how messages call the text."""
         self._text = text.replace("\r\n", "\n").replace("\r", "\n") if "\r" in text else text
+        self.length = len(text)
         self._source = source
         self._is_flat = names is Names.FLAT
         self._stored: dict[str, str] = {}

@@ -15,6 +15,7 @@ from xqs.errors import ReplyError
 from xqs.fetch import document_events
 from xqs.paths import NoPath, path_of
 from xqs.prefixed import prefixed_events
+from xqs.progress import Progress, progress_of, silent
 from xqs.temporary import is_temporary
 from xqs.values import Event
 from xqs.xml_out import FLAT, KEEP, NotXml, write_document
@@ -38,9 +39,18 @@ def written(path: Path) -> Iterator[TextIO]:
 class Exporter:
     """Writes documents below a folder."""
 
-    def __init__(self, client: Client, folder: Path, form: str, names: str, force: bool) -> None:
+    def __init__(
+        self,
+        client: Client,
+        folder: Path,
+        form: str,
+        names: str,
+        force: bool,
+        progress: Progress | None = None,
+    ) -> None:
         """`form` is `xml` or `constructors`; files that are there are replaced by `force` alone."""
         self._client, self._folder = client, folder
+        self._progress = progress or silent()
         self._form, self._names, self._force = form, names, force
         self._taken: set[Path] = set()
 
@@ -53,13 +63,15 @@ class Exporter:
         """Writes the documents whose address begins so, but temporary ones; those that can't be
         written, with the reason of each."""
         refused: dict[str, str] = {}
-        for address in self._client.list():
-            if not address.startswith(prefix) or is_temporary(address):
-                continue
+        known = self._client.list()
+        wanted = [it for it in known if it.startswith(prefix) and not is_temporary(it)]
+        self._progress.begin(len(wanted), 0)
+        for address in wanted:
             try:
                 self.export(address, prefix)
             except (NoPath, NotXml, OSError, ReplyError) as error:
                 refused[address] = str(error)
+            self._progress.step(0, address in refused)
         return refused
 
     def file_of(self, address: str, prefix: str) -> Path:
@@ -78,9 +90,19 @@ class Exporter:
         """Writes a document, and gives its file. NoPath, NotXml, OSError, ReplyError."""
         file = self.file_of(address, prefix)
         with written(file) as out:
-            self._write(document_events(self._client, address), out.write)
+            write = self._counted(out.write) if self._progress.draws else out.write
+            self._write(document_events(self._client, address), write)
         self._taken.add(file)
         return file
+
+    def _counted(self, write: Callable[[str], object]) -> Callable[[str], object]:
+        progress = self._progress
+
+        def counted(text: str) -> None:
+            write(text)
+            progress.reach(progress.bytes + len(text))
+
+        return counted
 
     def _write(self, events: Iterator[Event], write: Callable[[str], object]) -> None:
         if self._form == "xml":
@@ -94,8 +116,10 @@ def main(words: Sequence[str]) -> int:
     """Carries out the command."""
     given = _parser().parse_args(words)
     with connected(given) as client:
-        exporter = Exporter(client, given.folder, given.form, given.names, given.force)
-        refused = exporter.export_all(given.prefix)
+        with progress_of() as progress:
+            options = (given.form, given.names, given.force, progress)
+            exporter = Exporter(client, given.folder, *options)
+            refused = exporter.export_all(given.prefix)
     for address, why in refused.items():
         print(f"{address}: {why}")
     print(f"{exporter.count} written, {len(refused)} refused", file=sys.stderr)

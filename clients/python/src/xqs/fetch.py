@@ -11,6 +11,7 @@ from contextlib import contextmanager, suppress
 from xqs.client import Client
 from xqs.constructors import write_constructors
 from xqs.errors import Refused, XqError
+from xqs.progress import NODES, Progress
 from xqs.queries import q
 from xqs.requests import store_of
 from xqs.temporary import Temporary
@@ -19,16 +20,40 @@ from xqs.values import Close, Event, Leaf, NodeKind, Open, events
 TEXT_PIECE = 3_000_000
 """So many characters of a text are asked for at once; each takes five bytes at most."""
 _TOO_LONG = "prof:REPLY"
+_BETWEEN = 1_000
+"""So many nodes lie between two looks at the time, for the progress."""
 
 
-def document_events(client: Client, address: str) -> Iterator[Event]:
-    """The events of a document, a long text as several; Refused as FODC0002 where there is none."""
+def document_events(
+    client: Client, address: str, progress: Progress | None = None
+) -> Iterator[Event]:
+    """The events of a document, a long text as several; Refused as FODC0002 where there is none.
+
+    Where it comes in parts, `progress` goes by its nodes.
+    """
     text = _text_or_none(client, q("doc($a)", a=address))
     if text is not None:
         yield from events(text)
         return
     with _copied(client, address) as copy:
-        yield from _Large(client).node(f'doc("{copy}")')
+        steps = _Large(client).node(f'doc("{copy}")')
+        yield from _followed(client, copy, steps, progress) if progress else steps
+
+
+def _followed(
+    client: Client, copy: str, steps: Iterator[Event], progress: Progress
+) -> Iterator[Event]:
+    """The events, with what is told of them."""
+    count = 'count($d/descendant-or-self::node()) + count($d//@*)'
+    [nodes] = client.query(f'let $d := doc("{copy}") return {count}')
+    assert isinstance(nodes, int)
+    progress.begin(0, nodes, NODES)
+    seen = 0
+    for event in steps:
+        seen += not isinstance(event, Close)
+        if seen % _BETWEEN == 0:
+            progress.reach(seen)
+        yield event
 
 
 def write_text(

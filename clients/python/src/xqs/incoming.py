@@ -29,7 +29,9 @@ _MARK = b"\xef\xbb\xbf"
 
 
 class Incoming(Protocol):
-    """A document on its way in."""
+    """A document on its way in; `read` is how many bytes of its text have been read."""
+
+    read: int
 
     @property
     def nodes(self) -> int:
@@ -59,6 +61,7 @@ class XmlDocument:
 
     def __init__(self, chunks: Iterable[bytes], reader: XmlReader) -> None:
         self._chunks, self._reader = chunks, reader
+        self.read = 0
 
     @property
     def nodes(self) -> int:
@@ -66,6 +69,7 @@ class XmlDocument:
 
     def parts(self) -> Iterator[Part]:
         for chunk in self._chunks:
+            self.read += len(chunk)
             yield from self._reader.feed(chunk)
         yield from self._reader.close()
 
@@ -76,7 +80,7 @@ class XmlDocument:
 class QueryDocument:
     """A query that gives the document, and fits a request."""
 
-    nodes = 0
+    nodes = read = 0
 
     def __init__(self, text: str) -> None:
         self._text = text
@@ -93,6 +97,7 @@ class PrintedDocument:
 
     def __init__(self, steps: Iterable[Event], temporary: Temporary) -> None:
         self._steps = steps
+        self.read = 0
         self._document = DocumentText(temporary)
 
     @property
@@ -115,9 +120,16 @@ class ConstructorDocument(PrintedDocument):
 
     def parts(self) -> Iterator[Part]:
         try:
-            return iter(list(super().parts()))
+            parts = list(super().parts())
         except TooLarge as error:
             raise self._reader.fault(str(error)) from None
+        return self._passed(parts)
+
+    def _passed(self, parts: list[Part]) -> Iterator[Part]:
+        """The parts; each stands for its share of the text, as far as `read` tells."""
+        for part in parts:
+            self.read += self._reader.length // len(parts)
+            yield part
 
 
 def constructor_parts(document: DocumentText, steps: Iterable[Event]) -> Iterator[Part]:

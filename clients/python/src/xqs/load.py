@@ -10,18 +10,19 @@ from dataclasses import dataclass, field
 from fnmatch import fnmatch
 from pathlib import Path
 
+from xqs import switches
 from xqs.cli import connected, connection_options, is_lasting, server_of
 from xqs.client import Client
 from xqs.errors import Closed, Wanting, XqError
 from xqs.incoming import incoming
 from xqs.journal import Journal, default_place
 from xqs.paths import address_of
-from xqs.progress import Progress
+from xqs.progress import Progress, progress_of
 from xqs.protocol import address_bytes
 from xqs.stores import Sender
 from xqs.temporary import Temporary, is_temporary
 from xqs.window import Window
-from xqs.xml_in import XmlChoices
+from xqs.xml_in import ChoiceFault, XmlChoices
 from xqs.xml_names import Names
 
 STORED = "stored"
@@ -45,6 +46,8 @@ class Outcome:
     stored: int = 0
     refused: dict[str, str] = field(default_factory=dict)
     failed: dict[str, str] = field(default_factory=dict)
+    by_choice: list[Path] = field(default_factory=list)
+    """The files that other choices of reading may take."""
 
     def wrong(self) -> dict[str, str]:
         """The files that are not stored, with the reason of each."""
@@ -131,6 +134,7 @@ class Loader:
             return False
         if result != STORED:
             self.outcome.refused[file.path] = result
+            self.outcome.by_choice.append(file.place)
         elif address_of(file.path, self._prefix) not in self._there:
             return False
         self._progress.skip(file.stat.st_size)
@@ -160,6 +164,8 @@ class Loader:
             self.outcome.failed[file.path] = str(answer)
         elif isinstance(answer, BaseException):
             self.outcome.refused[file.path] = _reason(file, answer)
+            if isinstance(answer, ChoiceFault):
+                self.outcome.by_choice.append(file.place)
         else:
             self.outcome.stored += 1
         if self._journal and not isinstance(answer, Wanting):
@@ -178,12 +184,9 @@ def _reason(file: Found, error: BaseException) -> str:
 def load_folder(client: Client, folder: Path, prefix: str, choices: XmlChoices) -> Outcome:
     """Stores the XML files of a folder at once, without a journal. Closed; NotADirectoryError."""
     search = Search(folder, [XML_FILES])
-    progress = Progress(len(search.found), search.size)
-    try:
+    with progress_of(len(search.found), search.size) as progress:
         loader = Loader(client, None, progress, whole_prefix(prefix), choices)
         outcome = loader.load(search.found)
-    finally:
-        progress.clear()
     outcome.refused.update(search.refused)
     return outcome
 
@@ -262,25 +265,23 @@ def main(words: Sequence[str]) -> int:
               "server that goes on", file=sys.stderr)
     head = _head(given, str(place))
     journal = Journal(given.journal or default_place(json.dumps(head)), head, given.anew)
-    progress = Progress(len(search.found), search.size)
     try:
-        with connected(given, place) as client:
+        with progress_of(len(search.found), search.size) as progress, connected(given, place) as client:
             _drop_left(client, journal.temporary)
             loader = Loader(client, journal, progress, given.prefix, xml_choices(given))
             outcome = loader.load(search.found)
     except (Closed, KeyboardInterrupt) as error:
-        progress.clear()
         journal.close()
-        print(f"xqs load: {error or 'interrupted'}; the same call goes on from here, by "
-              f"{journal.path}", file=sys.stderr)
+        why = "interrupted" if isinstance(error, KeyboardInterrupt) else str(error)
+        print(f"xqs load: {why}; the same call goes on from here, by {journal.path}",
+              file=sys.stderr)
         return 1
-    progress.clear()
     outcome.refused.update(search.refused)
     if outcome.failed:
         journal.close()
     else:
         journal.finish()
-    return _report(outcome, progress)
+    return _report(outcome, progress, xml_choices(given))
 
 
 def _drop_left(client: Client, starts: list[str]) -> None:
@@ -292,10 +293,13 @@ def _drop_left(client: Client, starts: list[str]) -> None:
             client.drop(address)
 
 
-def _report(outcome: Outcome, progress: Progress) -> int:
+def _report(outcome: Outcome, progress: Progress, choices: XmlChoices) -> int:
     wrong = outcome.wrong()
     for path, why in sorted(wrong.items()):
         print(f"{path}{why}" if why.startswith(":") else f"{path}: {why}")
+    more = switches.shown(outcome.by_choice, choices)
+    if more:
+        print(more, file=sys.stderr)
     before = f", {progress.skipped} were done before" if progress.skipped else ""
     print(
         f"{outcome.stored} stored, {len(outcome.refused)} refused, {len(outcome.failed)} failed"

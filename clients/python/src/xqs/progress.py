@@ -1,22 +1,37 @@
 """A line on standard error that says how far a long command is."""
 
+import io
 import sys
 import time
+from collections.abc import Iterator
+from contextlib import contextmanager
 from typing import TextIO
 
 _BAR = 20
 _BETWEEN = 0.1
 """So many seconds lie between two drawings on a terminal, at least."""
+MEGABYTES, NODES = "MB", "nodes"
 
 
 class Progress:
-    """Files that are done, of so many with so many bytes. It draws on a terminal alone."""
+    """What is done, of so many files and of such a size. It draws on a terminal alone.
 
-    def __init__(self, files: int, size: int, stream: TextIO | None = None) -> None:
-        self._files, self._size = files, size
+    Where no size is known the bar goes by the files. The size is in bytes, or in nodes.
+    """
+
+    def __init__(
+        self, files: int, size: int, stream: TextIO | None = None, unit: str = MEGABYTES
+    ) -> None:
         self._stream = stream or sys.stderr
-        self._draws = self._stream.isatty()
-        self._start = self._drawn = time.monotonic()
+        self.draws = self._stream.isatty()
+        """Whether anybody sees it."""
+        self._drawn = time.monotonic()
+        self.begin(files, size, unit)
+
+    def begin(self, files: int, size: int, unit: str = MEGABYTES) -> None:
+        """Begins again, with so many files and such a size."""
+        self._files, self._size, self._unit = files, size, unit
+        self._start = time.monotonic()
         self.done = self.bytes = self.refused = self.skipped = 0
 
     @property
@@ -30,30 +45,60 @@ class Progress:
         self._size -= size
         self.skipped += 1
 
-    def step(self, size: int, is_refused: bool) -> None:
-        """Another file of so many bytes is done."""
+    def step(self, size: int, is_refused: bool = False) -> None:
+        """Another file of such a size is done."""
         self.done += 1
-        self.bytes += size
         self.refused += is_refused
-        if self._draws and time.monotonic() - self._drawn > _BETWEEN:
+        self.reach(self.bytes + size)
+
+    def reach(self, size: int) -> None:
+        """So much is done of the size."""
+        self.bytes = max(self.bytes, size)
+        if self.draws and time.monotonic() - self._drawn > _BETWEEN:
+            self.show(self.line())
+
+    def show(self, text: str) -> None:
+        """Draws a text in place of the line, on a terminal."""
+        if self.draws:
             self._drawn = time.monotonic()
-            self._stream.write(f"\r\x1b[K{self.line()}")
+            self._stream.write(f"\r\x1b[K{text}")
             self._stream.flush()
 
     def clear(self) -> None:
         """Takes the line away."""
-        if self._draws:
-            self._stream.write("\r\x1b[K")
-            self._stream.flush()
+        self.show("")
 
     def line(self) -> str:
         """Files, bar, rate, time left, refusals."""
-        filled = _BAR * self.bytes // max(self._size, 1)
-        rate = self.bytes / max(self.seconds, 0.001)
-        left = (self._size - self.bytes) / max(rate, 1)
+        share = self._share()
+        left = self.seconds * (1 - share) / share if share else 0.0
+        filled = int(_BAR * share)
         bar = "#" * filled + "." * (_BAR - filled)
+        files = f"{self.done}/{self._files} " if self._files else ""
+        time_left = f"{int(left) // 60}:{int(left) % 60:02} left" if share else "time left unknown"
         refused = f"; {self.refused} refused" if self.refused else ""
-        return (
-            f"{self.done}/{self._files} [{bar}] {rate / 1e6:.1f} MB/s, "
-            f"{int(left) // 60}:{int(left) % 60:02} left{refused}"
-        )
+        return f"{files}[{bar}] {self._rate()}, {time_left}{refused}"
+
+    def _share(self) -> float:
+        """How much of all is done, from 0 to 1; 0 where it isn't known."""
+        done, of = (self.bytes, self._size) if self._size else (self.done, self._files)
+        return min(done / of, 1.0) if of > 0 else 0.0
+
+    def _rate(self) -> str:
+        rate = self.bytes / max(self.seconds, 0.001)
+        return f"{rate / 1e6:.1f} MB/s" if self._unit == MEGABYTES else f"{rate:,.0f} nodes/s"
+
+
+def silent() -> Progress:
+    """A progress that nobody sees."""
+    return Progress(0, 0, io.StringIO())
+
+
+@contextmanager
+def progress_of(files: int = 0, size: int = 0) -> Iterator[Progress]:
+    """A progress whose line is taken away at the end, whatever ends it."""
+    progress = Progress(files, size)
+    try:
+        yield progress
+    finally:
+        progress.clear()

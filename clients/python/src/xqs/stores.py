@@ -9,6 +9,7 @@ it, and no document has changed.
 from collections.abc import Callable, Iterable
 from concurrent.futures import Future
 from dataclasses import dataclass
+from functools import partial
 from typing import BinaryIO
 
 from xqs.aio import AsyncClient
@@ -23,6 +24,7 @@ from xqs.incoming import (
     chunks_of,
     incoming,
 )
+from xqs.progress import Progress, silent
 from xqs.requests import store_of
 from xqs.temporary import Temporary, check_lasting
 from xqs.values import events
@@ -43,6 +45,42 @@ class Stored:
     parts: int
 
 
+class _Sending:
+    """What becomes of the requests of one document."""
+
+    is_sent = False
+
+    def __init__(
+        self,
+        document: Incoming,
+        temporary: Temporary,
+        done: Callable[[str | BaseException], None],
+        progress: Progress,
+    ) -> None:
+        self._document, self._temporary = document, temporary
+        self._done, self._progress = done, progress
+        self._failures: list[BaseException] = []
+        self._parts = 0
+
+    def part_ended(self, read: int, future: Future[str]) -> None:
+        """A part has its reply, up to which so many bytes of the text had been read."""
+        self._note(future)
+        self._parts += 1
+        self._progress.reach(read)
+        if self.is_sent and self._parts == self._temporary.count:
+            self._progress.show(f"joining {self._parts} parts")
+
+    def ended(self, future: Future[str]) -> None:
+        """The document has its reply."""
+        self._note(future)
+        self._done(self._failures[0] if self._failures else future.result())
+
+    def _note(self, future: Future[str]) -> None:
+        error = future.exception()
+        if error is not None:
+            self._failures.append(error)
+
+
 class Sender:
     """Sends the requests of documents ahead, through one window."""
 
@@ -56,6 +94,7 @@ class Sender:
         document: Incoming,
         temporary: Temporary,
         done: Callable[[str | BaseException], None],
+        progress: Progress | None = None,
     ) -> None:
         """Sends the parts of a document, the document itself, and drops of the parts.
 
@@ -63,21 +102,13 @@ class Sender:
         in reading the document leaves this, and then `done` is not called; parts that were sent are
         dropped.
         """
-        failures: list[BaseException] = []
-
-        def noted(future: Future[str]) -> None:
-            error = future.exception()
-            if error is not None:
-                failures.append(error)
-
-        def ended(future: Future[str]) -> None:
-            noted(future)
-            done(failures[0] if failures else future.result())
-
+        sending = _Sending(document, temporary, done, progress or silent())
         try:
             for part in document.parts():
-                self._store(part.address, part.text, noted)
-            self._store(address, document.whole(), ended)
+                ended = partial(sending.part_ended, document.read)
+                self._store(part.address, part.text, ended)
+            sending.is_sent = True
+            self._store(address, document.whole(), sending.ended)
         finally:
             self._drop(temporary.given())
 
@@ -98,11 +129,15 @@ def _ignore(_: Future[str]) -> None:
 
 
 def _send_and_wait(
-    client: Client, address: str, document: Incoming, temporary: Temporary
+    client: Client,
+    address: str,
+    document: Incoming,
+    temporary: Temporary,
+    progress: Progress | None = None,
 ) -> Stored:
     window, answers = Window(), list[str | BaseException]()
     try:
-        Sender(client, window).send(address, document, temporary, answers.append)
+        Sender(client, window).send(address, document, temporary, answers.append, progress)
     finally:
         window.drain()
     [answer] = answers
@@ -138,13 +173,14 @@ def store_file(
     source: str = "file",
     choices: XmlChoices = XmlChoices(),  # noqa: B008 (it is frozen)
     charset: str | None = None,
+    progress: Progress | None = None,
 ) -> Stored:
     """Stores what a file holds: XML, or a query that gives the document, which has constructors
     alone where it is too long for a request. Errors as of `store_xml`, and PlacedFault."""
     check_lasting(address)
     temporary = Temporary()
     document = incoming(file, source, temporary, choices, charset)
-    return _send_and_wait(client, address, document, temporary)
+    return _send_and_wait(client, address, document, temporary, progress)
 
 
 def store_constructors(client: Client, address: str, text: str, source: str = "text") -> Stored:

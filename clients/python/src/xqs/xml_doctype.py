@@ -15,6 +15,10 @@ _REFERENCE = re.compile(rb"&([^#;][^;]*);")
 _PREDEFINED = ("lt", "gt", "amp", "quot", "apos")
 
 
+class EntityFault(ValueError):
+    """An entity that is declared where entities are not asked for."""
+
+
 class Doctype:
     """Watches a parser: whether it is inside a document type, and which entities that declares.
 
@@ -22,7 +26,7 @@ class Doctype:
     """
 
     def __init__(
-        self, parser: expat.XMLParserType, entities: bool, refuse: Callable[[str], NoReturn]
+        self, parser: expat.XMLParserType, entities: bool, refuse: Callable[[str | Exception], NoReturn]
     ) -> None:
         """Entities that the text declares are refused but where `entities` are asked for."""
         self._parser = parser
@@ -69,7 +73,8 @@ class Doctype:
 
     def _declared_entity(self, name: str, is_parameter: bool, *_: object) -> None:
         if not is_parameter:
-            self._refuse(f"the entity {name} is declared here; entities have to be asked for")
+            why = f"the entity {name} is declared here; entities have to be asked for"
+            self._refuse(EntityFault(why))
 
     def _noted_entity(self, name: str, is_parameter: bool, text: str | None, *_: object) -> None:
         if not is_parameter:

@@ -13,7 +13,7 @@ from xqs.faults import PlacedFault
 from xqs.parts import DocumentText, Part, TooLarge
 from xqs.temporary import Temporary
 from xqs.xml_decoding import EncodingFault, Utf8
-from xqs.xml_doctype import Doctype
+from xqs.xml_doctype import Doctype, EntityFault
 from xqs.xml_names import NameFault, Names, incoming, is_declaration
 
 SPACE = " \t\r\n"
@@ -41,6 +41,10 @@ class XmlChoices:
 
 class XmlFault(PlacedFault):
     """XML that is not well-formed, or that is refused; with its place, counted from 1."""
+
+
+class ChoiceFault(XmlFault):
+    """XML that is refused by a choice, and that another one may take."""
 
 
 class XmlReader:
@@ -126,9 +130,10 @@ class XmlReader:
             is_on = self._parser.CurrentByteIndex > begun
             self._slice = _SLICE if is_on else self._slice * 2
 
-    def _refuse(self, why: str) -> NoReturn:
+    def _refuse(self, why: str | Exception) -> NoReturn:
         line, column = self._parser.CurrentLineNumber, self._parser.CurrentColumnNumber + 1
-        raise XmlFault(self._source, line, column, why) from None
+        kind = ChoiceFault if isinstance(why, NameFault | EntityFault) else XmlFault
+        raise kind(self._source, line, column, str(why)) from None
 
     def _start(self, name: str, pairs: list[str]) -> None:
         if self._text:
@@ -140,7 +145,7 @@ class XmlReader:
             if pairs:
                 self._attributes(self._stored(pairs))
         except FAULTS as error:
-            self._refuse(str(error))
+            self._refuse(error)
 
     def _attributes(self, pairs: list[str]) -> None:
         attribute = self._document.attribute
@@ -164,7 +169,7 @@ class XmlReader:
                 continue
             stored = self._names[name]
             if stored in values:
-                self._refuse(f"two attributes would be called {stored}")
+                self._refuse(NameFault(f"two attributes would be called {stored}"))
             values[stored] = value
         return [it for pair in values.items() for it in pair]
 
@@ -195,7 +200,7 @@ class XmlReader:
         try:
             self._document.text(text)
         except FAULTS as error:
-            self._refuse(str(error))
+            self._refuse(error)
 
     def _comment(self, text: str) -> None:
         if self._doctype.is_inside:
@@ -204,7 +209,7 @@ class XmlReader:
         try:
             self._document.comment(text)
         except FAULTS as error:
-            self._refuse(str(error))
+            self._refuse(error)
 
     def _instruction(self, name: str, text: str) -> None:
         if self._doctype.is_inside:
@@ -213,7 +218,7 @@ class XmlReader:
         try:
             self._document.instruction(self._names[name], text)
         except FAULTS as error:
-            self._refuse(str(error))
+            self._refuse(error)
 
 
 class _Cache(dict[str, str]):

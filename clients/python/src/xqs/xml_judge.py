@@ -43,7 +43,7 @@ class _Judge(XmlReader):
             if pairs:
                 self._attributes(self._stored(pairs))
         except FAULTS as error:
-            self._refuse(str(error))
+            self._refuse(error)
 
     def _attributes(self, pairs: list[str]) -> None:
         if pairs:
@@ -71,4 +71,4 @@ class _Judge(XmlReader):
         try:
             step()
         except FAULTS as error:
-            self._refuse(str(error))
+            self._refuse(error)
