@@ -43,15 +43,6 @@ ALLOCATIONS = {
         "xq_rows_tests", "adoption_tests::each_allocation_in_memory",
         "adoption_tests::each_allocation_on_memory_disks",
     ],
-    "allocations_queries": [
-        "xq_queries_tests", "rows::each_allocation_of_paths",
-        "rows::each_allocation_of_children_below", "rows::each_allocation_of_flwor",
-        "rows::each_allocation_of_constructors", "rows::each_allocation_of_values",
-        "rows::each_allocation_of_refusals", "joins::each_allocation_of_joins",
-    ],
-    "allocations_rows": [
-        "xq_server_tests", "growth_tests::each_allocation_of_the_worked_rows",
-    ],
 }
 """The tests of which each allocation is refused in turn; without words those of a store's calls."""
 LAST_LINES = 60
@@ -129,6 +120,11 @@ def program_trials(given: Given) -> Iterator[Trial]:
     growths = ["python3", "tools/refuse_each_growth.py"]
     yield Trial("growths", growths, (), ("cc",), built)
     yield Trial("growths_file", [*growths, "--file"], (), ("cc",), built)
+    for table in ("queries.toml", "joins.toml"):
+        words = [*growths, "--table", table]
+        yield Trial(f"growths_{table.partition('.')[0]}", words, (), ("cc",), built)
+    yield Trial("rows", ["python3", "-m", "unittest", "discover", "-s", "tools", "-p", "test_rows*"],
+                wants=served, environment={"XQS_SERVER": server})
     seconds = "3600" if given.is_long else "60"
     yield Trial("soak", ["python3", "tools/soak.py", "--seconds", seconds], wants=built)
     yield Trial("limits", ["python3", "bench/limits.py"], wants=built)

@@ -11,7 +11,7 @@ import shlex
 import sys
 
 from harness import Server, built
-from worked_rows import rows
+from row_tables import worked
 
 LONGEST_QUERY = 1_048_576
 
@@ -21,7 +21,7 @@ def main() -> int:
     parser.add_argument("--server", metavar="COMMAND")
     words = parser.parse_args()
     server = Server(shlex.split(words.server) if words.server else [built()])
-    texts = [row.text for row in rows()
+    texts = [row.text for row in worked()
              if row.kind == b"Q" and row.status == 0 and len(row.text) <= LONGEST_QUERY]
     wrong = [text for text in texts if server.ask(b"Q", text) != (0, text)]
     server.end()

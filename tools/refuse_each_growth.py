@@ -2,9 +2,11 @@
 """Refuses each growth of the program's memory in turn, over the worked rows, and judges each reply.
 
     tools/refuse_each_growth.py [--program PATH] [--file] [--first N] [--last N] [--every N]
+        [--table NAME ..]
 
 One server gets the worked rows in order, a frame that is no request, three requests that tell the
-documents, and a length over the limit. Of all its allocations one is refused: in memory, the
+documents, and a length over the limit; with --table one gets each run of the table's groups in
+their place, each row twice, so that what was refused is asked again at once. Of all its allocations one is refused: in memory, the
 process forks at each, and the child's is refused (tools/refuse.c); with --file there is a run over
 a new file for each. Such a run has to end by saying that there was no room, after whole replies; or
 the frame that met the refusal has status 2, each one before it its own reply, and each one after it
@@ -19,34 +21,29 @@ import argparse
 import collections
 import concurrent.futures
 import functools
+import itertools
 import os
 import pathlib
+import shutil
 import struct
 import subprocess
 import sys
 import tempfile
 import time
-from collections.abc import Sequence
+from collections.abc import Iterator, Sequence
 from dataclasses import dataclass
 
 from harness import built
-from worked_rows import rows
+from row_runs import Reply, request, whole_replies as replies
+from row_tables import Row, runs, worked
+from xqs.protocol import framed
 
 TOP = pathlib.Path(__file__).resolve().parent.parent
-TOLD = ((b"L", b""), (b"Q", b'doc("a")'), (b"Q", b'doc("b")'))
+TOLD = (Row(b"L", b"", 0, b""), Row(b"Q", b'doc("a")', 0, b""), Row(b"Q", b'doc("b")', 0, b""))
 NO_REQUEST, TOO_LONG = b"\xaa\xbb", struct.pack(">I", 1_048_833)
 WANTS = (b"memory", b"store")
 NO_ROOM = (b"xq_server: memory", b"xq_server: cannot open the store")
 SHOWN = 40
-
-
-@dataclass(frozen=True)
-class Reply:
-    """A reply: its tag, status and text."""
-
-    tag: int
-    status: int
-    text: bytes
 
 
 @dataclass(frozen=True)
@@ -58,54 +55,66 @@ class Ended:
     status: int
 
 
-def framed(message: bytes) -> bytes:
-    """A message after its length."""
-    return struct.pack(">I", len(message)) + message
-
-
-def request(tag: int, kind: bytes, body: bytes) -> bytes:
-    """The frame of a request."""
-    return framed(struct.pack(">I", tag) + kind + body)
-
-
 def telling(tag: int) -> list[bytes]:
     """Frames by which a server tells its documents, with tags from this one on."""
-    return [request(tag + place, *asked) for place, asked in enumerate(TOLD)]
+    return [request(tag + place, row) for place, row in enumerate(TOLD)]
 
 
-@functools.cache
-def sent() -> tuple[bytes, ...]:
+def frames_of(rows: Sequence[Row]) -> tuple[bytes, ...]:
     """The frames of a run, but for the length over the limit."""
-    worked = [request(tag, row.kind, row.body) for tag, row in enumerate(rows())]
-    return (*worked, framed(NO_REQUEST), *telling(len(worked)))
+    asked = [request(tag, row) for tag, row in enumerate(rows)]
+    return (*asked, framed(NO_REQUEST), *telling(len(asked)))
 
 
-@functools.cache
-def own() -> tuple[Reply, ...]:
+def own_of(rows: Sequence[Row]) -> tuple[Reply, ...]:
     """The replies of the rows."""
-    worked = [Reply(tag, row.status, row.text) for tag, row in enumerate(rows())]
-    return (*worked, Reply(0, 1, b"prof:FRAME"))
+    asked = [Reply(tag, row.status, row.text) for tag, row in enumerate(rows)]
+    return (*asked, Reply(0, 1, b"prof:FRAME"))
 
 
-def replies(output: bytes) -> tuple[list[Reply], bytes]:
-    """The whole replies with which the output begins, and what is left of it."""
-    found = []
-    while len(output) >= 9:
-        length, tag, status = struct.unpack(">IIB", output[:9])
-        if len(output) < 4 + length:
-            break
-        found.append(Reply(tag, status, output[9:4 + length]))
-        output = output[4 + length:]
-    return found, output
+def twice(rows: Sequence[Row]) -> list[Row]:
+    """The rows, each query twice, one right after the other."""
+    return [row for row in rows for _time in range(2 if row.kind == b"Q" else 1)]
+
+
+@dataclass(frozen=True)
+class Input:
+    """Rows that a run has, and the file of which it begins with a copy, where there is one."""
+
+    name: str
+    rows: Sequence[Row]
+    base: pathlib.Path | None = None
 
 
 class Program:
-    """The program, run over frames."""
+    """The program, run over the frames of rows."""
 
-    def __init__(self, path: pathlib.Path, folder: pathlib.Path, allocator: pathlib.Path) -> None:
+    def __init__(
+        self, path: pathlib.Path, folder: pathlib.Path, allocator: pathlib.Path, given: Input
+    ) -> None:
         self.path = path
         self.folder = folder
         self.allocator = allocator
+        self.base = given.base
+        self.sent = frames_of(given.rows)
+        self.own = own_of(given.rows)
+
+    def words(self, name: str) -> list[str]:
+        """The words for a new file of that name."""
+        path = self.folder / f"{name}.db"
+        if self.base:
+            shutil.copy(self.base, path)
+        return ["--file", str(path)]
+
+    def told(self, frames: Sequence[bytes]) -> list[Reply]:
+        """The replies of a server over new documents to these frames."""
+        words = self.words(f"told{next(self.numbers)}") if self.base else []
+        return replies(self.run(b"".join(frames), words).output)[0]
+
+    @functools.cached_property
+    def numbers(self) -> Iterator[int]:
+        """Numbers for names of files."""
+        return itertools.count()
 
     def run(self, data: bytes, words: Sequence[str] = (), **environment: str) -> Ended:
         """A run over these bytes; with an environment, under the allocator that refuses."""
@@ -122,16 +131,14 @@ class Program:
     @functools.cache
     def without(self, place: int) -> tuple[Reply, ...]:
         """The replies of a server that never gets the frame at this place."""
-        frames = sent()
-        ended = self.run(b"".join(frames[:place] + frames[place + 1:]) + TOO_LONG)
-        return tuple(replies(ended.output)[0])
+        frames = self.sent
+        return tuple(self.told([*frames[:place], *frames[place + 1:], TOO_LONG]))
 
     @functools.cache
     def documents_after(self, count: int, left_out: int = -1) -> tuple[Reply, ...]:
         """What a server tells of its documents after so many frames, but for one."""
-        frames = [it for place, it in enumerate(sent()[:count]) if place != left_out]
-        ended = self.run(b"".join(frames + telling(0)))
-        return tuple(replies(ended.output)[0][-len(TOLD):])
+        frames = [it for place, it in enumerate(self.sent[:count]) if place != left_out]
+        return tuple(self.told(frames + telling(0))[-len(TOLD):])
 
     def documents_in(self, path: str) -> tuple[Reply, ...]:
         """What a server tells of the documents in a file."""
@@ -151,10 +158,12 @@ class Judgement:
     kept: tuple[tuple[int, int], ...] = ()
 
 
-def judge_end(ended: Ended, got: Sequence[Reply], whole: Sequence[Reply]) -> Judgement:
+def judge_end(
+    program: Program, ended: Ended, got: Sequence[Reply], whole: Sequence[Reply]
+) -> Judgement:
     """Judges a run in which no reply has status 2."""
     if list(got) == list(whole) and ended.line == b"xq_server: frame too long":
-        return Judgement("not noticed", kept=((len(sent()), -1),))
+        return Judgement("not noticed", kept=((len(program.sent), -1),))
     if list(got) == list(whole[:len(got)]) and ended.line in NO_ROOM:
         return Judgement(f"ended: {ended.line.decode()}", kept=((len(got), -1),))
     return Judgement("another end", f"{len(got)} replies, status {ended.status}, {ended.line!r}")
@@ -167,7 +176,7 @@ def judge_later(
     wanted = program.without(place)
     later = got[place + 1:]
     if list(later) == list(wanted[place:]):
-        return Judgement(f"reply: {got[place].text.decode()}", kept=((len(sent()), place),))
+        return Judgement(f"reply: {got[place].text.decode()}", kept=((len(program.sent), place),))
     shut = [it.status == 2 and it.text == b"store" for it in later]
     for is_shut, reply, other in zip(shut, later, wanted[place:]):
         if not is_shut and reply != other:
@@ -184,7 +193,7 @@ def judge(program: Program, ended: Ended, whole: Sequence[Reply]) -> Judgement:
         return Judgement("part of a reply", f"{rest[:40]!r} after {len(got)} replies")
     place = next((at for at, reply in enumerate(got) if reply.status == 2), None)
     if place is None:
-        return judge_end(ended, got, whole)
+        return judge_end(program, ended, got, whole)
     refused = got[place]
     if list(got[:place]) != list(whole[:place]):
         return Judgement("earlier reply", f"one before frame {place} differs")
@@ -199,7 +208,7 @@ def forked(program: Program, whole: Ended) -> dict[int, Ended]:
     """The runs of all refusals in memory, by the numbers of their allocations."""
     folder = program.folder / "forks"
     folder.mkdir()
-    data = b"".join(sent()) + TOO_LONG
+    data = b"".join(program.sent) + TOO_LONG
     if program.run(data, FORKS=str(folder)) != whole:
         sys.exit("refuse_each_growth: the process that forked has other replies")
     runs = {}
@@ -221,15 +230,15 @@ def judged_in_memory(
 
 def judged_on_file(program: Program, whole: Ended, numbers: range) -> dict[int, Judgement]:
     """Judges the refusal of each of these allocations over a file, each in a run of its own."""
-    data = b"".join(sent()) + TOO_LONG
+    data = b"".join(program.sent) + TOO_LONG
     wanted = replies(whole.output)[0]
 
     def judged(number: int) -> Judgement:
-        path = f"{program.folder}/{number}.db"
-        ended = program.run(data, ["--file", path], REFUSE=str(number))
+        words = program.words(str(number))
+        ended = program.run(data, words, REFUSE=str(number))
         found = judge(program, ended, wanted)
         kept = {program.documents_after(*frames) for frames in found.kept}
-        held = program.documents_in(path)
+        held = program.documents_in(words[-1])
         for left in program.folder.glob(f"{number}.db*"):
             left.unlink()
         if found.kept and held not in kept:
@@ -243,10 +252,11 @@ def judged_on_file(program: Program, whole: Ended, numbers: range) -> dict[int, 
 def checked(program: Program, words: Sequence[str]) -> tuple[Ended, int]:
     """A run with ample memory, which has to have the rows' own replies, and its allocations."""
     report = program.folder / "count"
-    ended = program.run(b"".join(sent()) + TOO_LONG, words, REPORT=str(report))
+    ended = program.run(b"".join(program.sent) + TOO_LONG, words, REPORT=str(report))
     got, rest = replies(ended.output)
-    if tuple(got[:len(own())]) != own() or rest or len(got) != len(sent()) + 1:
-        place = next((at for at, pair in enumerate(zip(got, own())) if pair[0] != pair[1]), None)
+    if tuple(got[:len(program.own)]) != program.own or rest or len(got) != len(program.sent) + 1:
+        pairs = enumerate(zip(got, program.own))
+        place = next((at for at, pair in pairs if pair[0] != pair[1]), None)
         sys.exit(f"refuse_each_growth: with ample memory reply {place} is not the row's own")
     return ended, int(report.read_text())
 
@@ -259,19 +269,19 @@ def compiled(folder: pathlib.Path) -> pathlib.Path:
     return library
 
 
-def main() -> int:
-    """Judges all refusals; gives the exit status."""
-    words = argparse.ArgumentParser(description=(__doc__ or "").split("\n")[0])
-    words.add_argument("--program", type=pathlib.Path)
-    words.add_argument("--file", action="store_true")
-    words.add_argument("--first", type=int, default=1)
-    words.add_argument("--last", type=int)
-    words.add_argument("--every", type=int, default=1)
-    asked = words.parse_args()
+def inputs(table: str) -> list[Input]:
+    """The inputs of a table: one for each server that its groups have."""
+    return [Input(f"{table} {run[0].name}", twice([row for group in run for row in group.rows]),
+                  run[0].base)
+            for run in runs(table)]
+
+
+def faults_of(given: Input, allocator: pathlib.Path, asked: argparse.Namespace) -> int:
+    """Judges all refusals in the runs of an input; gives how many are faults."""
     with tempfile.TemporaryDirectory() as name:
-        folder = pathlib.Path(name)
-        program = Program((asked.program or built()).resolve(), folder, compiled(folder))
-        whole, total = checked(program, ["--file", f"{folder}/whole.db"] if asked.file else [])
+        program = Program((asked.program or built()).resolve(), pathlib.Path(name), allocator,
+                          given)
+        whole, total = checked(program, program.words("whole") if asked.file else [])
         begin = time.monotonic()
         numbers = range(asked.first, (asked.last or total) + 1, asked.every)
         judged = (judged_on_file if asked.file else judged_in_memory)(program, whole, numbers)
@@ -281,9 +291,26 @@ def main() -> int:
         print(f"allocation {number}: {it.kind}: {it.fault}")
     for kind, count in collections.Counter(it.kind for it in judged.values()).most_common():
         print(f"{count:6}  {kind}")
-    print(f"{total} allocations in {len(sent()) + 1} frames; refused {len(judged)} of them, one at "
-          f"a time, in {took:.0f} s; {len(faults)} faults")
-    return 1 if faults else 0
+    print(f"{given.name}: {total} allocations in {len(program.sent) + 1} frames; refused "
+          f"{len(judged)} of them, one at a time, in {took:.0f} s; {len(faults)} faults", flush=True)
+    return len(faults)
+
+
+def main() -> int:
+    """Judges all refusals; gives the exit status."""
+    words = argparse.ArgumentParser(description=(__doc__ or "").split("\n")[0])
+    words.add_argument("--program", type=pathlib.Path)
+    words.add_argument("--file", action="store_true")
+    words.add_argument("--first", type=int, default=1)
+    words.add_argument("--last", type=int)
+    words.add_argument("--every", type=int, default=1)
+    words.add_argument("--table", action="append", default=[], metavar="NAME")
+    asked = words.parse_args()
+    given = [it for table in asked.table for it in inputs(table)]
+    with tempfile.TemporaryDirectory() as folder:
+        allocator = compiled(pathlib.Path(folder))
+        faults = [faults_of(it, allocator, asked) for it in given or [Input("rows", worked())]]
+    return 1 if any(faults) else 0
 
 
 if __name__ == "__main__":
