@@ -12,8 +12,9 @@ with another request:
     { kind = "L", reply = TEXT }
     { kind = "S", body = HEX, reply = TEXT }
 
-A text is a string, or a long one: { times, before, middle, after }. A reply that reads as a code
-has status 1, any other status 0; `wants` in place of `reply` is for status 2.
+A text is a string, a list of texts, or a text of which parts stand so many times: { times, before,
+middle, after }. A reply that reads as a code has status 1, any other status 0; `wants` in place of
+`reply` is for status 2.
 """
 
 import functools
@@ -27,7 +28,7 @@ from typing import Any
 FOLDER = pathlib.Path(__file__).resolve().parent / "rows"
 DOCUMENTS = "documents.toml"
 CODE = re.compile(r"[A-Z]{4}[0-9]{4}|prof:[A-Z0-9]+")
-Given = str | Mapping[str, Any]
+Given = str | list[Any] | Mapping[str, Any]
 
 
 class Misread(Exception):
@@ -58,9 +59,11 @@ def text_of(given: Given) -> bytes:
     """The bytes of a text."""
     if isinstance(given, str):
         return given.encode()
+    if isinstance(given, list):
+        return b"".join(map(text_of, given))
     times = int(given["times"])
-    parts = [str(given.get(name, "")) for name in ("before", "middle", "after")]
-    return (parts[0] * times + parts[1] + parts[2] * times).encode()
+    before, middle, after = (text_of(given.get(it, "")) for it in ("before", "middle", "after"))
+    return before * times + middle + after * times
 
 
 def store_body(address: str, query: bytes) -> bytes:
