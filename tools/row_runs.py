@@ -5,10 +5,13 @@ has ended. A row that is refused is sent twice, one right after the other: a ref
 nothing. Each reply of a query is itself a query, which gives itself over no documents.
 """
 
+import contextlib
 import pathlib
+import shutil
 import struct
 import subprocess
 import sys
+import tempfile
 from collections.abc import Iterable, Iterator, Sequence
 from dataclasses import dataclass
 
@@ -87,11 +90,22 @@ def is_of_no_tag(row: Row, reply: Reply | None) -> bool:
     return row.text == b"prof:FRAME" and reply == Reply(0, row.status, row.text)
 
 
+@contextlib.contextmanager
+def over_copy(base: pathlib.Path | None) -> Iterator[list[str]]:
+    """The words for a server over a copy of the file, where there is one."""
+    if base is None:
+        yield []
+        return
+    with tempfile.TemporaryDirectory() as folder:
+        yield ["--file", shutil.copy(base, folder)]
+
+
 def wrong(command: Sequence[str], run: Sequence[Group]) -> Iterator[str]:
     """What is wrong with the replies of a server to a run."""
     sent = asked(run)
     frames = [request(tag, row) for tag, (_name, row) in enumerate(sent, 1)]
-    ended = served(command, b"".join(frames))
+    with over_copy(run[0].base) as words:
+        ended = served([*command, *words], b"".join(frames))
     found = [*replies(ended.output), *[None] * len(sent)]
     if (ended.status, ended.line) != (0, ""):
         yield f"the server ended with status {ended.status}: {ended.line}"
