@@ -50,7 +50,7 @@ def content(folder: pathlib.Path) -> dict[str, bytes]:
 
 
 @unittest.skipUnless(command(), "there is no program: set XQS_SERVER")
-class FileTest(unittest.TestCase):
+class OverFile(unittest.TestCase):
     """Tests over a new file, `self.path`, in a folder of its own."""
 
     def setUp(self) -> None:
@@ -66,6 +66,10 @@ class FileTest(unittest.TestCase):
     def over_file(self) -> list[str]:
         """The words that start a server on the file."""
         return [*command(), "--file", str(self.path)]
+
+
+class FileTest(OverFile):
+    """Files that are opened, and files that are refused."""
 
     def check_rows(self, name: str, given: list[Any]) -> None:
         """Checks the replies of a server over the file to these rows."""
