@@ -1,10 +1,11 @@
 """Names with a prefix in queries over flat names, and in their results."""
 
+import asyncio
 import unittest
 from pathlib import Path
 
-from tests.support import CommandTest, ServerTest
-from xqs import Node, values
+from tests.support import CommandTest, ServerTest, server_command
+from xqs import Node, aio, values
 from xqs.prefixed import PrefixFault, flat_query, flattened, prefixed, prefixed_text
 from xqs.stores import store_xml
 from xqs.tokens import tokens
@@ -88,7 +89,23 @@ class Asked(ServerTest):
         found = self.server.query_text(flat_query('doc("a")//dc:title, doc("a")/r/@xmlns:dc'))
         self.assertEqual(prefixed_text(found), (
             'element dc:title {attribute xl:href {"h"}, text {"T:t"}}, attribute xmlns:dc {"v"}'))
-        self.assertEqual(self.server.query(flat_query('doc("a")/r/@xmlns/string()')), ["u"])
+        self.assertEqual(self.server.query('doc("a")/r/@xmlns/string()', names="flat"), ["u"])
+        asked = 'doc("a")//dc:title, "dc__title"'
+        title, name = self.server.query(asked, names="flat")
+        assert isinstance(title, Node)
+        self.assertEqual((title.name, title["xl:href"], name), ("dc:title", "h", "dc__title"))
+        self.assertEqual(list(self.server.iterate(asked, names="flat")), [title, name])
+        with self.assertRaises(ValueError):
+            self.server.query("1", names="local")
+
+    def test_asyncio(self) -> None:
+        async def ask() -> list[object]:
+            async with await aio.connect(server_command()) as client:
+                await client.store("a", "document {element dc__t {}}")
+                return list(await client.query('doc("a")/dc:t', names="flat"))
+
+        [node] = asyncio.run(ask())
+        self.assertEqual(str(node), "element dc:t {}")
 
 
 class ByCommand(CommandTest):

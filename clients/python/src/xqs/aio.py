@@ -11,6 +11,7 @@ from xqs.client import INTERRUPTS, bounds_for
 from xqs.endings import Origin
 from xqs.endpoints import Where, endpoint
 from xqs.errors import TimedOut, XqError
+from xqs.prefixed import asked, told
 from xqs.requests import (
     LIST,
     SHOWN,
@@ -24,6 +25,7 @@ from xqs.requests import (
 )
 from xqs.temporary import check_lasting
 from xqs.values import Item, items, values
+from xqs.xml_out import KEEP
 
 
 class AsyncClient:
@@ -64,17 +66,25 @@ class AsyncClient:
             shown = request.shown[:SHOWN]
             raise TimedOut(f"no reply within {timeout:g} seconds to: {shown}") from None
 
-    async def query_text(self, query: str, *, timeout: float | None = None) -> str:
-        """The value of a query, as it is printed."""
-        return await self.request(query_of(query), timeout)
+    async def query_text(
+        self, query: str, *, timeout: float | None = None, names: str = KEEP
+    ) -> str:
+        """The value of a query, as it is printed. By `names="flat"` a query has names with a
+        prefix, and so has its value, where documents were stored with flat names."""
+        return told(await self.request(query_of(asked(query, names)), timeout), names)
 
-    async def query(self, query: str, *, timeout: float | None = None) -> Items:
-        """The items of a query's value."""
-        return values(await self.query_text(query, timeout=timeout))
+    async def query(
+        self, query: str, *, timeout: float | None = None, names: str = KEEP
+    ) -> Items:
+        """The items of a query's value; `names` as of `query_text`."""
+        return values(await self.query_text(query, timeout=timeout, names=names))
 
-    async def iterate(self, query: str, *, timeout: float | None = None) -> AsyncIterator[Item]:
-        """The items of a query's value one by one, each read as it is asked for."""
-        for item in items(await self.query_text(query, timeout=timeout)):
+    async def iterate(
+        self, query: str, *, timeout: float | None = None, names: str = KEEP
+    ) -> AsyncIterator[Item]:
+        """The items of a query's value one by one, each read as it is asked for; `names` as of
+        `query_text`."""
+        for item in items(await self.query_text(query, timeout=timeout, names=names)):
             yield item
 
     async def store(self, address: str, query: str, *, timeout: float | None = None) -> bool:

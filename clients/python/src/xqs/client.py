@@ -9,6 +9,7 @@ from xqs.endings import Origin
 from xqs.endpoints import Where, endpoint
 from xqs.errors import TimedOut, XqError
 from xqs.link import Link
+from xqs.prefixed import asked, told
 from xqs.requests import (
     LIST,
     SHOWN,
@@ -27,6 +28,7 @@ from xqs.streams import SocketStream as SocketStream
 from xqs.streams import Stream, open_stream
 from xqs.temporary import check_lasting
 from xqs.values import Item, items, values
+from xqs.xml_out import KEEP
 
 INTERRUPTS = (KeyboardInterrupt, SystemExit, TimeoutError)
 """What ends a connection at once where it leaves a `with`."""
@@ -101,17 +103,25 @@ class Client:
         """Asks to drop the document."""
         return self.request_later(drop_of(address))
 
-    def query_text(self, query: str, *, timeout: float | None = None) -> str:
-        """The value of a query, as it is printed."""
-        return self.request(query_of(query), timeout)
+    def query_text(
+        self, query: str, *, timeout: float | None = None, names: str = KEEP
+    ) -> str:
+        """The value of a query, as it is printed. By `names="flat"` a query has names with a
+        prefix, and so has its value, where documents were stored with flat names."""
+        return told(self.request(query_of(asked(query, names)), timeout), names)
 
-    def query(self, query: str, *, timeout: float | None = None) -> Items:
-        """The items of a query's value."""
-        return values(self.query_text(query, timeout=timeout))
+    def query(
+        self, query: str, *, timeout: float | None = None, names: str = KEEP
+    ) -> Items:
+        """The items of a query's value; `names` as of `query_text`."""
+        return values(self.query_text(query, timeout=timeout, names=names))
 
-    def iterate(self, query: str, *, timeout: float | None = None) -> Iterator[Item]:
-        """The items of a query's value one by one, each read as it is asked for."""
-        return items(self.query_text(query, timeout=timeout))
+    def iterate(
+        self, query: str, *, timeout: float | None = None, names: str = KEEP
+    ) -> Iterator[Item]:
+        """The items of a query's value one by one, each read as it is asked for; `names` as of
+        `query_text`."""
+        return items(self.query_text(query, timeout=timeout, names=names))
 
     def store(self, address: str, query: str, *, timeout: float | None = None) -> bool:
         """Stores the document that the query gives; whether it replaced another one."""

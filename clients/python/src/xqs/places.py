@@ -11,12 +11,13 @@ import re
 from collections.abc import Iterable, Iterator, Sequence
 from dataclasses import dataclass
 from functools import cache
-from typing import NamedTuple
 
 from xqs import grammar
+from xqs.faults import line_and_column as line_and_column
 from xqs.language_tables import FUNCTIONS as FUNCTIONS
 from xqs.language_tables import GRAMMAR, NO_CALLS
 from xqs.language_tables import TYPES as TYPES
+from xqs.tokens import Token, tokens
 
 KEYWORDS = tuple(sorted(set(re.findall(r'"([a-z-]+)"', GRAMMAR))))
 """The words that mean something in the grammar."""
@@ -25,15 +26,6 @@ _NO_CALLS = {*NO_CALLS, *(it for it in KEYWORDS if it not in FUNCTIONS)}
 READ_AT_MOST = 20_000
 """Of longer texts the grammar is not read: it takes time."""
 
-_NAME = r"[^\W\d][\w.\-\u00b7]*"
-_TOKEN = re.compile(
-    rf"""(?P<space>[ \t\r\n]+)
-    |(?P<string>"(?:[^"]|"")*+"|'(?:[^']|'')*+')
-    |(?P<name>{_NAME}(?::{_NAME})?)
-    |(?P<number>\d+(?:\.\d*)?|\.\d+)
-    |(?P<symbol>:=|::|//|\.\.|!=|<=|>=|<<|>>|\|\||=>|[()\[\]{{}},$/.@*+\-=<>|!?])""",
-    re.VERBOSE,
-)
 _NO_CHARACTER = re.compile("[^\t\n\r\x20-\ud7ff\ue000-\ufffd\U00010000-\U0010ffff]")
 """What XML 1.0 doesn't have."""
 _NUMBERED = re.compile(r"&#(x[0-9a-fA-F]+|[0-9]+);")
@@ -50,45 +42,6 @@ class Place:
 
     at: int
     why: str
-
-
-class Token(NamedTuple):
-    """A token of a query, or a comment: its kind, where it begins, its text."""
-
-    kind: str
-    at: int
-    text: str
-
-
-def tokens(text: str) -> Iterator[Token]:
-    """The tokens of a text but for white space, comments among them. The kinds `open string`, `open
-    comment` and `other` stand for what is no token; they end the tokens."""
-    at = 0
-    while at < len(text):
-        token = _token_at(text, at)
-        if token.kind != "space":
-            yield token
-        if token.kind in ("open string", "open comment", "other"):
-            return
-        at += len(token.text)
-
-
-def _token_at(text: str, at: int) -> Token:
-    if text.startswith("(:", at):
-        return _comment(text, at)
-    found = _TOKEN.match(text, at)
-    if found:
-        return Token(found.lastgroup or "", at, found[0])
-    return Token("open string" if text[at] in "\"'" else "other", at, text[at])
-
-
-def _comment(text: str, start: int) -> Token:
-    depth = 0
-    for found in re.compile(r"\(:|:\)").finditer(text, start):
-        depth += 1 if found[0] == "(:" else -1
-        if depth == 0:
-            return Token("comment", start, text[start : found.end()])
-    return Token("open comment", start, text[start:])
 
 
 def is_open(text: str) -> bool:
@@ -365,18 +318,15 @@ def _near(name: str, known: object, before: str = "") -> str:
     return f"; the nearest is {before}{nearest[0]}" if nearest else ""
 
 
-def line_and_column(text: str, at: int) -> tuple[int, int]:
-    """The line and the column of a place, from 1."""
-    before = text[:at]
-    return before.count("\n") + 1, at - (before.rfind("\n") + 1) + 1
-
-
 def shown(text: str, code: str) -> str:
     """The place that explains a refusal, with its line and a mark below; empty where there is
     none."""
     place = find(text, code)
-    if place is None:
-        return ""
+    return "" if place is None else marked(text, place)
+
+
+def marked(text: str, place: Place) -> str:
+    """A place in words, with its line and a mark below."""
     line, column = line_and_column(text, place.at)
     shown_line = text.split("\n")[line - 1]
     start = max(column - 60, 0)

@@ -3,13 +3,13 @@
 A document that is loaded by `--names flat` has `dc__title` for `dc:title`. Here a query may be
 written as one writes it elsewhere, and its results are shown so:
 
-    from xqs.prefixed import flat_query, prefixed
+    client.query('doc("a")//dc:title/@xlink:href', names="flat")
 
-    items = client.query(flat_query('doc("a")//dc:title/@xlink:href'))
-    shown = [prefixed(it) for it in items]          # nodes with dc:title, strings as they are
+It is made of these, for whoever asks by other ways:
 
     text = client.query_text(flat_query("//dc:title"))
     prefixed_text(text)                             # element dc:title {..}, a query again
+    [prefixed(it) for it in values(text)]           # nodes with dc:title, strings as they are
 
 Names are mapped token by token: names of elements, attributes and processing instructions, in steps
 and in constructors; never what stands in a string or a comment, a variable, or a name that is
@@ -26,7 +26,7 @@ from xqs.rewriting import Rewritten, rewrite
 from xqs.tokens import Token, tokens
 from xqs.values import Event, Item, Leaf, Node, Open, events
 from xqs.xml_names import FLAT_COLON, NAMESPACE, NameFault, Names, incoming, outgoing
-from xqs.xml_out import FLAT
+from xqs.xml_out import FLAT, is_flat
 
 _WILDCARDS = {
     "p:*": 'names by prefix are *[starts-with(name(), "p__")]',
@@ -111,6 +111,16 @@ def prefixed_events(steps: Iterable[Event], names: str = FLAT) -> Iterator[Event
             yield replace(event, name=outgoing(event.name))
         else:
             yield event
+
+
+def asked(text: str, names: str) -> str:
+    """The query as the server takes it; `names` is `keep`, or `flat` for a query with prefixes."""
+    return flat_query(text) if is_flat(names) else text
+
+
+def told(printed: str, names: str) -> str:
+    """A printed result as it is shown: by `flat` with prefixes."""
+    return prefixed_text(printed) if is_flat(names) else printed
 
 
 def prefixed_text(printed: str) -> str:

@@ -20,15 +20,21 @@ class NotXml(XqError, ValueError):
     return in a comment or a processing instruction."""
 
 
+def is_flat(names: str) -> bool:
+    """Whether names with a prefix are wanted in place of flat ones; ValueError for a word that is
+    neither `keep` nor `flat`."""
+    if names not in (KEEP, FLAT):
+        raise ValueError(f"names are kept or flat, not {names!r}")
+    return names == FLAT
+
+
 class XmlWriter:
     """Writes printed nodes as XML, as their events come."""
 
     def __init__(self, write: Callable[[str], object], names: str = KEEP) -> None:
         """`names` is `keep`, or `flat` to turn flat names back (`p__a` into `p:a`)."""
-        if names not in (KEEP, FLAT):
-            raise ValueError(f"names are kept or flat, not {names!r}")
         self._write = write
-        self._name = outgoing if names == FLAT else _same
+        self._name = outgoing if is_flat(names) else _same
         self._open: list[str] = []
         self._in_tag = False
 
