@@ -188,9 +188,28 @@ class Sockets(BoundTest):
         with RunningMux("--seconds", "3") as mux, connect(mux.place, timeout=0.5) as client:
             with self.within(1), self.assertRaises(TimedOut):
                 client.query(ENDLESS)
-            with self.within(1), self.assertRaises(TimedOut):
-                client.query("1", timeout=0.5)
-            self.assertEqual(client.query("1", timeout=30), [1])
+            with self.within(2):
+                self.assertEqual(client.query("1", timeout=30), [1])
+
+
+    def test_a_client_that_goes_ends_its_query(self) -> None:
+        with RunningMux() as mux, connect(mux.place) as stays:
+            stays.store("a", LIBRARY)
+            goes = connect(mux.place)
+            goes.query_text_later(ENDLESS)
+            time.sleep(0.5)
+            with self.within(2):
+                goes.kill()
+                self.assertEqual(stays.list(), ["a"])
+            self.assertIn("the client of its query has gone", mux.said())
+
+    def test_what_is_given_up_frees_the_connection(self) -> None:
+        with RunningMux() as mux, connect(mux.place) as client, self.within(4):
+            client.query_text_later(ENDLESS).cancel()
+            self.assertEqual(client.query("1"), [1])
+            with self.assertRaises(TimedOut):
+                client.query(ENDLESS, timeout=0.3)
+            self.assertEqual(client.query("2"), [2])
 
 
 class Memory(BoundTest):

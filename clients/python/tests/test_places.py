@@ -1,5 +1,6 @@
 """Where a text is refused: what is claimed holds, and nothing more is claimed."""
 
+import os
 import random
 import re
 import subprocess
@@ -79,7 +80,7 @@ class Places(ServerTest):
         examples = re.findall(r"`([^`]+)`\s+(?:gives|is\s+refused)", page)
         chosen = random.Random(83)
         futures = []
-        for _ in range(1500):
+        for _ in range(5_000 if os.environ.get("XQS_LONG") else 400):
             text = mutated(chosen, chosen.choice(examples))
             futures.append((text, self.server.query_text_later(f"if (1 = 2) then ({text}\n) else ()")))
         refused = 0
@@ -92,7 +93,7 @@ class Places(ServerTest):
             with self.subTest(text):
                 self.assertEqual(place is not None, code == "XPST0003", code)
                 refused += place is not None
-        self.assertGreater(refused, 300)
+        self.assertGreater(refused, 100)
 
     def test_a_text_that_is_read_has_no_bracket_open(self) -> None:
         page = (TOP / "docs" / "LANGUAGE.md").read_text()
@@ -164,7 +165,7 @@ class Tables(unittest.TestCase):
     def test_a_long_text_is_read_in_bounds(self) -> None:
         begin = time.thread_time()
         self.assertIsNotNone(places.find("(" + "1 + " * 50_000, "XPST0003"))
-        self.assertTrue(places.may_go_on("1, " * 6_000))
+        self.assertTrue(places.may_go_on("1, " * 1_000))
         self.assertLess(time.thread_time() - begin, 20)
 
 

@@ -13,13 +13,15 @@ import time
 from contextlib import redirect_stderr, redirect_stdout
 from unittest import mock
 
-from tests.support import LIBRARY, TOP, FolderTest, ServerTest, server_command
+from tests.support import LIBRARY, TOP, FolderTest, ServerTest, file_server, server_command
+from xqs import connect
 from xqs.cli import main
 from xqs.session import Session, completions, is_whole
 from xqs.shell import word_before
 
 
 INTERRUPT = "\x03"
+ENDLESS = "every $x in 1 to 1000000, $y in 1 to 1000000 satisfies $x > 0\r"
 
 
 class Sessions(ServerTest):
@@ -103,6 +105,17 @@ class Sessions(ServerTest):
             self.assertFalse(is_whole(text), text)
         for text in ("1", "(1, 2)", ".store x it's", ".", ""):
             self.assertTrue(is_whole(text), text)
+        for text in ("let $a := 1", "for $x in 1 to 3\nlet $y := $x", "1 +", "if (1) then 2"):
+            self.assertFalse(is_whole(text), text)
+            self.assertTrue(is_whole(f"{text}\n\n") and is_whole(f"{text};"), text)
+        self.assertFalse(is_whole('"a\n\n') or is_whole("(: a;"))
+        self.assertFalse(is_whole("(1,\n\n", is_typed=False))
+
+    def test_several_texts(self) -> None:
+        self.assertEqual(self.asked('1; "a;b" (: ; :); 3;'), '1\n"a;b"\n3')
+        self.assertEqual(self.asked("1 +; 2").splitlines()[0], "2")
+        self.assertIn("1:4: the text ends here, where an operand is expected", self.asked("1 +;"))
+        self.assertEqual(self.asked(";"), "")
 
 
 def take_terminal() -> None:
@@ -152,6 +165,38 @@ class Terminal(TerminalTest):
         self.assertIn("distinct-values((4, 4))", seen)
         self.assertIn("9\r\n", self.typed(["sum((4, 5))\r", ".quit\r"], "--plain"))
         self.assertIn("sum((4, 5))", (self.folder / "xqs" / "history").read_text())
+
+    def test_a_flwor_of_several_lines(self) -> None:
+        lines = ["for $x in 1 to 2\r", "let $y := $x\r", "return $y * 10\r", "let $z := 1\r",
+                 "\r", "1; 2;\r", ".quit\r"]
+        seen = self.typed(lines, "--plain", marks={4: "...> ", 5: "^", 6: "2\r\n"})
+        self.assertIn("10, 20\r\n", seen)
+        self.assertIn("1:12: the text ends here, where 'return'", seen)
+
+    def test_an_interrupt_ends_the_query(self) -> None:
+        lines = [ENDLESS, INTERRUPT, "3 + 4\r", ".quit\r"]
+        marks = {1: "$x > 0\r\n", 2: "is ended", 3: "7\r\n"}
+        begin = time.monotonic()
+        for words in ((), ("--file", str(self.folder / "x.db"))):
+            self.assertIn("7\r\n", self.typed(lines, "--plain", *words, marks=marks))
+        self.assertLess(time.monotonic() - begin, 50)
+
+    def test_documents_in_memory_are_lost_by_a_second_interrupt_alone(self) -> None:
+        file = self.folder / "a.xml"
+        file.write_text("<a/>")
+        lines = [f".store a {file}\r", ENDLESS, INTERRUPT, INTERRUPT, "3 + 4\r", ".list\r", ".quit\r"]
+        marks = {1: "stored\r\n", 2: "$x > 0\r\n", 3: "Ctrl+C again", 4: "lost: 1 of them: a",
+                 5: "7\r\n", 6: ".list\r\n"}
+        self.typed(lines, "--plain", marks=marks)
+
+    def test_its_end_is_the_end_of_the_server(self) -> None:
+        for last in (INTERRUPT + "\x04", "\x04"):
+            begin = time.monotonic()
+            self.typed([ENDLESS, INTERRUPT, last], "--plain", "--file", str(self.folder / "x.db"),
+                       marks={1: "$x > 0\r\n", 2: "is ended"})
+            self.assertLess(time.monotonic() - begin, 50)
+            with connect(file_server(self.folder / "x.db")) as client:
+                self.assertEqual(client.list(), [])  # (nobody holds the file any more)
 
     def test_interrupts_leave_the_server(self) -> None:
         # (many times the half second after which it is interrupted, on a fast machine too)

@@ -60,11 +60,6 @@ class Client:
         place = f"to {self._origin.place}" if self._origin else "over a stream"
         return f"<xqs.Client {place}{'' if self._link.stream else ', ended'}>"
 
-    @property
-    def process(self) -> object:
-        """The process that was started for the connection, if any."""
-        return self._link.stream and self._link.stream.process
-
     def request_later(self, request: Request) -> TextFuture:
         """Sends a request; the future gives the text of its reply.
 
@@ -76,17 +71,15 @@ class Client:
         """Sends a request, and gives the text of its reply."""
         if not timeout:
             seconds = self._seconds if timeout is None else None
-            return self._link.send(request, seconds).result()
+            return _awaited(self._link.send(request, seconds))
         end = time.monotonic() + timeout
         bound = self._seconds if self._seconds is None else max(self._seconds, timeout)
         future = self._link.send(request, bound, end)
         try:
-            return future.result(max(end - time.monotonic(), 0))
+            return _awaited(future, max(end - time.monotonic(), 0))
         except TimeoutError as error:
             if isinstance(error, XqError):
                 raise
-            if not future.cancel():
-                return future.result()
             shown = request.shown[:SHOWN]
             raise TimedOut(f"no reply within {timeout:g} seconds to: {shown}") from None
 
@@ -140,6 +133,21 @@ class Client:
         """Whether documents that were stored here would be lost if the server were ended now."""
         return self._link.watch.is_losing
 
+    @property
+    def is_ended(self) -> bool:
+        """Whether nothing more can be asked by this connection."""
+        return bool(self._link.watch.ended)
+
+    @property
+    def is_busy(self) -> bool:
+        """Whether a request is under way, be it one that nobody awaits any more."""
+        return self._link.watch.is_busy
+
+    def restart(self) -> set[str]:
+        """Ends the server that was started here with what it is at, and starts another one; gives
+        the addresses of documents that were in its memory, and are lost."""
+        return self._link.restart()
+
     def close(self) -> int | None:
         """Ends the connection once the replies under way have come.
 
@@ -164,6 +172,19 @@ class Client:
             self.kill()
         else:
             self.close()
+
+
+def _awaited(future: TextFuture, timeout: float | None = None) -> str:
+    """The result of a future, which is cancelled where it is awaited no longer."""
+    try:
+        return future.result(timeout)
+    except TimeoutError:
+        if future.cancel() or future.exception():
+            raise
+        return future.result()  # It has come in between.
+    except BaseException:
+        future.cancel()
+        raise
 
 
 def connect(

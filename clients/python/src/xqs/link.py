@@ -20,7 +20,7 @@ from xqs.endings import (
     retry_delays,
 )
 from xqs.errors import Closed, Lost, TimedOut, XqError
-from xqs.requests import LIST, SHOWN, InFlight, Request, TextFuture, Waiting
+from xqs.requests import LIST, PROBE, SHOWN, InFlight, Request, TextFuture, Waiting
 from xqs.streams import Stream, open_stream
 from xqs.watch import Watch
 
@@ -202,6 +202,21 @@ class Link:
             for message in splitter.feed(piece or b""):
                 probe.replied(message).answer(message)
         return self._in_flight.take_missing(waiting.future)
+
+    def restart(self) -> set[str]:
+        """Ends a server that was started here and is at a request that nobody awaits, and starts
+        another one; the documents that are lost by that."""
+        before, stream = set(self._in_flight.stored), self._stream
+        self.watch.is_forced = True
+        if stream is not None:
+            stream.wake()
+        try:
+            self.send(PROBE, None).result()
+        except Lost:
+            pass
+        finally:
+            self.watch.is_forced = False
+        return before - self._in_flight.stored
 
     # ---- the end
 

@@ -19,6 +19,8 @@ VAIN_STARTS = 4
 """So many servers in turn may end before a client has sent them anything."""
 LOOK_AGAIN = 1.0
 """At most once in so many seconds the server is asked whether its database has shut."""
+LOOK_FOR_GONE = 0.25
+"""So often it is looked whether the client of a long query has gone."""
 
 
 def is_gone(request: Request) -> bool:
@@ -47,6 +49,7 @@ class Multiplexer:
         self._window = asyncio.Semaphore(settings.window)
         self._tasks: list[asyncio.Task[None]] = []
         self._vain_starts = 0
+        self._left: Backend | None = None
         self._looked = 0.0
         self._look: asyncio.Task[None] | None = None
         self._shut = asyncio.Event()
@@ -56,7 +59,8 @@ class Multiplexer:
         """Starts the server. Raises StartFailed where it does not answer."""
         await self._begin_backend()
         self._tasks = [asyncio.create_task(work) for work in
-                       (self._watch_end(), self._watch_shut(), self._clients.watch_unread())]
+                       (self._watch_end(), self._watch_shut(), self._watch_gone(),
+                        self._clients.watch_unread())]
 
     async def _begin_backend(self) -> None:
         self._backend = await Backend.start(
@@ -126,6 +130,14 @@ class Multiplexer:
                 await self._backend.finish()
                 await self._make_ready()
 
+    async def _watch_gone(self) -> None:
+        """Has the server begin anew where it is at a query of a client that has gone, unless
+        documents in its memory would be lost."""
+        while True:
+            await asyncio.sleep(LOOK_FOR_GONE)
+            if (self._on_file or not self._addresses) and self._backend.leave_for_nobody():
+                self._left = self._backend
+
     async def _watch_end(self) -> None:
         while not self.failed.is_set():
             backend = self._backend
@@ -143,7 +155,7 @@ class Multiplexer:
         old.in_flight.clear()
         self._say_why(old, len(in_flight))
         behind = self._settle(old, in_flight)
-        if not self._on_file:
+        if not self._on_file and (self._addresses or old is not self._left):
             self._lose_memory()
         self._vain_starts = self._vain_starts + 1 if old.frames <= 1 else 0
         if self._vain_starts == VAIN_STARTS or not await self._start_again():
@@ -153,6 +165,8 @@ class Multiplexer:
 
     def _say_why(self, old: Backend, in_flight: int) -> None:
         why = f"{old.status()}, after {old.frames} frames"
+        if old is self._left:
+            why = "the client of its query has gone"
         if old.overdue:
             why = f"one request {overdue(self._settings.seconds or 0)}"
         self._say(f"the server is started again ({why}; {in_flight} requests in flight)")

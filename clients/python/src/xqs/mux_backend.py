@@ -146,6 +146,18 @@ class Backend:
         """For how many seconds the server has been at the first request in flight."""
         return time.monotonic() - self._front_since
 
+    def leave_for_nobody(self) -> bool:
+        """Ends a server that has been for a while at a query whose client has gone; whether it
+        was."""
+        front = self.in_flight[0] if self.in_flight else None
+        if front is None or front.peer is None or front.changes() or self.worked() <= BLAMELESS:
+            return False
+        if not front.peer.has_gone():
+            return False
+        front.peer.cut()
+        self.kill()
+        return True
+
     def is_worth_a_repetition(self, front: Request) -> bool:
         """Whether the first request in flight, of a server that has ended, is to be sent to the
         next one: a query, sent for the first time, that hardly made the server end."""

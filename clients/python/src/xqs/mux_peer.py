@@ -3,6 +3,7 @@
 import asyncio
 import collections
 import dataclasses
+import select
 
 from xqs import protocol
 from xqs.protocol import Kind, Status
@@ -126,6 +127,18 @@ class Peer:
     def taken(self) -> int:
         """The bytes of replies that have left for the client so far."""
         return self._written - self.unread()
+
+    def has_gone(self) -> bool:
+        """Whether the client has closed its connection, and not its side alone; of a port of
+        loopback that isn't seen before something is written to it."""
+        if self.gone:
+            return True
+        connection = self._writer.get_extra_info("socket")
+        if connection is None or connection.fileno() < 0:
+            return False
+        poller = select.poll()
+        poller.register(connection.fileno(), 0)
+        return any(event & (select.POLLHUP | select.POLLERR) for _, event in poller.poll(0))
 
     def end(self) -> None:
         """Ends the connection once the replies that are there have left; frames are dropped."""

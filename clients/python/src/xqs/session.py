@@ -4,10 +4,10 @@ import shlex
 import sys
 import time
 from collections.abc import Callable
-from dataclasses import dataclass
 from pathlib import Path
 
 from xqs import places
+from xqs.bounds import lost
 from xqs.client import Client
 from xqs.commands import store_file
 from xqs.constructors import write_constructors
@@ -15,6 +15,8 @@ from xqs.errors import Closed, Refused, XqError
 from xqs.export import Exporter
 from xqs.fetch import document_events
 from xqs.load import load_folder
+from xqs.shell_texts import COMMANDS, is_command, parted, texts_of
+from xqs.shell_texts import is_whole as is_whole
 from xqs.values import values
 from xqs.xml_in import XmlChoices
 from xqs.xml_names import Names
@@ -24,45 +26,15 @@ _ADDRESS_CALLS = ('doc("', "doc('", 'doc-available("', "doc-available('")
 _ADDRESS_COMMANDS = (".drop ", ".store ", ".get ")
 
 
-@dataclass(frozen=True)
-class Command:
-    """A dot command: its words after the name, what it does, and the least and the greatest number
-    of words."""
-
-    words: str
-    summary: str
-    least: int
-    most: int
-
-
-COMMANDS = {
-    ".list": Command("[PREFIX]", "the addresses", 0, 1),
-    ".get": Command("ADDRESS", "a document, of any length", 1, 1),
-    ".store": Command("ADDRESS FILE", "store a file of XML, or of a query", 2, 2),
-    ".drop": Command("ADDRESS ..", "drop documents", 1, 1_000_000),
-    ".load": Command("DIR [PREFIX]", "store the XML files of a folder", 1, 2),
-    ".export": Command("DIR [PREFIX]", "write documents to a folder as XML", 1, 2),
-    ".names": Command("refuse|flat|local", "what becomes of names with a colon", 1, 1),
-    ".xml": Command("on|off", "nodes as XML, or as constructors", 1, 1),
-    ".timing": Command("on|off", "say how long each answer takes", 1, 1),
-    ".read": Command("FILE", "carry out the queries and commands of a file", 1, 1),
-    ".help": Command("", "this list", 0, 0),
-    ".quit": Command("", "end; so does Ctrl+D", 0, 0),
-}
+_HELP = (
+    "QUERY                     its value; Enter carries it out once it is whole, else it goes on",
+    "                          in the next line; an empty line or ; ends it in any case",
+    "Ctrl+C                    ends the query that runs",
+)
 
 
 class Misused(XqError, ValueError):
     """A command with wrong words."""
-
-
-def is_whole(text: str) -> bool:
-    """Whether a text is to be carried out, or goes on in the next line."""
-    return text.lstrip().startswith(".") and _is_command(text) or not places.is_open(text)
-
-
-def _is_command(text: str) -> bool:
-    words = text.split(None, 1)
-    return bool(words) and words[0] in COMMANDS
 
 
 def completions(session: "Session", word: str, before: str) -> list[str]:
@@ -106,17 +78,41 @@ class Session:
         except XqError:
             return []
 
+    def interrupt(self) -> str:
+        """Ends what is under way, which nobody awaits any more; where documents in memory would be
+        lost by that, it goes on, and this says so."""
+        if not (self._client.is_busy and self._client.is_losing):
+            return ""
+        return "the server is at it still, since documents in its memory would be lost"
+
+    def wait(self) -> None:
+        """Waits for the end of what is under way."""
+        try:
+            self._client.query_text("()")
+        except XqError as error:
+            self._say(str(error))
+
+    def begin_anew(self) -> str:
+        """Ends the server with what it is at, and begins another one; says what was lost."""
+        missing = self._client.restart()
+        return "the query is ended" + (f"; {lost(missing)}" if missing else "")
+
     def run(self, text: str) -> bool:
-        """Carries out a query or a command; whether it was. What went wrong is said."""
-        text = text.strip()
-        if not text:
-            return True
+        """Carries out queries or a command; whether it was. What went wrong is said."""
+        done = True
+        for part in parted(text):
+            done = self._run_one(part) and done
+            if self.is_ended:
+                break
+        return done
+
+    def _run_one(self, text: str) -> bool:
         begin = time.perf_counter()
         try:
-            done = self._command(text) if _is_command(text) else self._query(text)
+            done = self._command(text) if is_command(text) else self._query(text)
         except Closed as error:
             self._say(str(error))
-            self.is_ended = True
+            self.is_ended = self._client.is_ended
             return False
         except (XqError, ValueError, OSError) as error:
             self._say(str(error))
@@ -199,13 +195,13 @@ class Session:
             raise Misused(f"{name} reads itself")
         self._reading.append(path)
         try:
-            return all(self.run(it) for it in _texts_of(path.read_text(encoding="utf-8")))
+            return all(self.run(it) for it in texts_of(path.read_text(encoding="utf-8")))
         finally:
             self._reading.pop()
 
     def _do_help(self) -> None:
         lines = [f"{f'{name} {it.words}':26}{it.summary}" for name, it in COMMANDS.items()]
-        self._show("\n".join(["QUERY" + " " * 21 + "its value", *lines]))
+        self._show("\n".join([*_HELP, *lines]))
 
     def _do_quit(self) -> bool:
         self.is_ended = True
@@ -216,19 +212,3 @@ def _is_on(choice: str) -> bool:
     if choice not in ("on", "off"):
         raise Misused(f"on or off, not {choice}")
     return choice == "on"
-
-
-def _texts_of(text: str) -> list[str]:
-    """The queries and commands of a file: each ends with a line where it is whole and an empty line
-    or a command follows."""
-    texts, pending = [], ""
-    for line in [*text.splitlines(), ""]:
-        begins = _is_command(line)
-        if pending.strip() and (begins or not line.strip()) and is_whole(pending):
-            texts.append(pending)
-            pending = ""
-        pending += line + "\n"
-        if begins and pending.strip() == line.strip():
-            texts.append(pending)
-            pending = ""
-    return [*texts, pending] if pending.strip() else texts

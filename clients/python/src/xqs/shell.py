@@ -11,7 +11,8 @@ from collections.abc import Callable, Iterator, Sequence
 from pathlib import Path
 
 from xqs.cli import connected, connection_options, is_lasting, server_of
-from xqs.session import Session, completions, is_whole
+from xqs.session import Session, completions
+from xqs.shell_texts import Lines
 
 PROMPT, MORE = "xqs> ", "...> "
 _WORD = "_-.:$/@"
@@ -57,16 +58,30 @@ def _run_typed(session: Session, text: str) -> None:
     try:
         session.run(text)
     except KeyboardInterrupt:
-        print("interrupted; a query can't be called back, so what you ask next waits for its end",
-              file=sys.stderr)
+        _end_query(session)
+
+
+def _end_query(session: Session) -> None:
+    """Ends the query that was interrupted. Where documents in memory would be lost by that, it is
+    ended by a second interrupt alone, or by its bound."""
+    warning = session.interrupt()
+    if not warning:
+        print("interrupted: the query is ended", file=sys.stderr)
+        return
+    print(f"interrupted; {warning}; Ctrl+C again ends it all the same", file=sys.stderr)
+    try:
+        session.wait()
+        print("the query has come to its end", file=sys.stderr)
+    except KeyboardInterrupt:
+        print(session.begin_anew(), file=sys.stderr)
 
 
 def _parser() -> argparse.ArgumentParser:
     words = argparse.ArgumentParser(
         prog="xqs shell",
         parents=[connection_options()],
-        description="Asks queries by hand. A query runs at Enter where its brackets, strings and "
-        "comments are closed, else it goes on in the next line; .help lists the commands.",
+        description="Asks queries by hand. A query runs at Enter once it is whole, else it goes on "
+        "in the next line; an empty line or ; ends it. .help lists the commands.",
     )
     words.add_argument("-c", "--command", help="carry out this query or command, and end")
     words.add_argument("--xml", action="store_true", help="begin with nodes as XML")
@@ -94,17 +109,13 @@ def _printer(pages: bool) -> Callable[[str], None]:
 
 def _run_lines(session: Session, lines: Iterator[str]) -> int:
     """Carries out what comes from a file or a pipe; status 1 where something was refused."""
-    pending, status = "", 0
+    read, status = Lines(is_typed=False), 0
     for line in lines:
-        pending += line
-        if is_whole(pending):
-            status |= not session.run(pending)
-            pending = ""
-        if session.is_ended:
-            return status
-    if pending.strip():
-        status |= not session.run(pending)
-    return status
+        for text in read.take(line):
+            status |= not session.run(text)
+            if session.is_ended:
+                return status
+    return status | (not session.run(read.rest()))
 
 
 def _typed(session: Session, plain: bool) -> Iterator[str]:
@@ -142,19 +153,17 @@ def _by_readline(session: Session) -> Iterator[str]:
 
 
 def _by_input(keep: Callable[[], None]) -> Iterator[str]:
-    pending = ""
+    read = Lines(is_typed=True)
     while True:
         try:
-            pending += input(MORE if pending else PROMPT) + "\n"
-            if not is_whole(pending):
-                continue
-            keep()
+            texts = read.take(input(MORE if read.pending else PROMPT))
+            if texts:
+                keep()
         except KeyboardInterrupt:
-            pending = ""
+            read.rest()
             print()
             continue
         except EOFError:
             print()
             return
-        yield pending
-        pending = ""
+        yield from texts

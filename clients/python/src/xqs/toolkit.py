@@ -35,7 +35,7 @@ def keys() -> KeyBindings:
     @bindings.add("enter")
     def _(event: KeyPressEvent) -> None:
         buffer = event.current_buffer
-        if is_whole(buffer.text):
+        if is_whole(buffer.text + "\n"):
             buffer.validate_and_handle()
         else:
             buffer.insert_text("\n")

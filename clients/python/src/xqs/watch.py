@@ -20,6 +20,8 @@ class Watch(Generic[F]):
         self.in_flight: InFlight[F] = InFlight()
         self.closing: float | None = None
         """Since when nothing more is asked; None before."""
+        self.is_forced = False
+        """Whether a server is to be ended although documents are lost by that."""
         self.ended = ""
         """Why nothing more can be asked; empty before."""
 
@@ -34,6 +36,11 @@ class Watch(Generic[F]):
         origin = self.origin
         return origin is not None and origin.is_started and not origin.keeps and bool(
             self.in_flight.stored)
+
+    @property
+    def is_busy(self) -> bool:
+        """Whether a request is under way."""
+        return not self._is_idle()
 
     def close(self) -> None:
         """From now on nothing more is asked."""
@@ -108,4 +115,4 @@ class Watch(Generic[F]):
 
     def _may_end(self) -> bool:
         it = self.in_flight
-        return may_end(self.origin, self.closing is not None, bool(it.stored), it.has_changes())
+        return self.is_forced or may_end(self.origin, self.closing is not None, bool(it.stored), it.has_changes())
