@@ -106,6 +106,13 @@ class Commands(CommandTest):
         self.assertEqual((self.folder / "all" / "two.xq").read_text(),
                          "document {element a {}, element b {}}\n")
 
+    def test_nothing_is_exported_into_the_folders_of_a_build(self) -> None:
+        for folder in (TOP / "out", TOP / "out" / "xqs-test", TOP / "crates" / "xq_rows" / "out"):
+            was_there = folder.exists()
+            status, _, said = self.run_command("export", folder)
+            self.assertEqual((status, folder.exists()), (1, was_there))
+            self.assertIn("is a folder of this checkout's build", said)
+
     def test_backup_and_restore(self) -> None:
         with connect(file_server(self.folder / "x.db")) as client:
             client.store("a", 'document {element a {"\n&amp;""é"}}')

@@ -6,7 +6,7 @@ from unittest import mock
 
 from tests.support import CommandTest, ServerTest
 from tests.test_constructors_in import large
-from xqs import Client
+from xqs import Client, switches
 from xqs.progress import NODES, Progress
 from xqs.stores import store_file
 from xqs.xml_in import XmlChoices, XmlFault
@@ -118,16 +118,26 @@ class Switches(CommandTest):
         }.items():
             self.write(path, text)
         told = self.run_command("load", self.folder / "in")[2]
-        self.assertIn("of 6 refused that were tried, more would load: 3 by --names flat, "
+        self.assertIn("more would load by other options: 3 by --names flat, "
                       "3 by --names local, 1 by --entities, 5 by --names flat --entities, "
                       "5 by --names local --entities\n", told)
         self.assertIn("1 stored, 7 refused, 0 failed", told.splitlines()[-1])
         told = self.run_command("load", self.folder / "in", "--names", "flat")[2]
-        self.assertIn("more would load: 2 by --entities, 1 by --names local, "
+        self.assertIn("more would load by other options: 2 by --entities, 1 by --names local, "
                       "3 by --names local --entities", told)
         self.write("3.xml", "<a/>")
         told = self.run_command("load", self.folder / "in", "--names", "flat", "--entities")[2]
         self.assertNotIn("would load", told)
+
+    def test_files_that_take_long_to_try_are_left_out(self) -> None:
+        for name in ("a.xml", "b.xml"):
+            self.write(name, "<p:a/>")
+        with mock.patch("xqs.switches.PATIENCE", 0.0), mock.patch(
+                "xqs.switches.time.monotonic", side_effect=[0.0, 0.0, 1.0]):
+            told = switches.shown([self.folder / "in" / it for it in ("a.xml", "b.xml")],
+                                  XmlChoices())
+        self.assertEqual(told, "more would load by other options: 1 by --names flat, "
+                         "1 by --names local (of the first 1 of 2)")
 
     def test_an_interrupted_load_says_so(self) -> None:
         self.write("a.xml", "<a/>")

@@ -8,7 +8,7 @@ from contextlib import contextmanager
 from pathlib import Path
 from typing import TextIO
 
-from xqs.cli import connected, connection_options
+from xqs.cli import checkout_server, connected, connection_options
 from xqs.client import Client
 from xqs.constructors import write_constructors
 from xqs.errors import ReplyError
@@ -20,6 +20,8 @@ from xqs.temporary import is_temporary
 from xqs.values import Event
 from xqs.xml_out import FLAT, KEEP, NotXml, write_document
 
+BUILT = "out"
+"""How the checkout's folders are called in which programs are built."""
 SUFFIX = {"xml": ".xml", "constructors": ".xq"}
 
 
@@ -115,6 +117,7 @@ class Exporter:
 def main(words: Sequence[str]) -> int:
     """Carries out the command."""
     given = _parser().parse_args(words)
+    _check_folder(given.folder)
     with connected(given) as client:
         with progress_of() as progress:
             options = (given.form, given.names, given.force, progress)
@@ -124,6 +127,16 @@ def main(words: Sequence[str]) -> int:
         print(f"{address}: {why}")
     print(f"{exporter.count} written, {len(refused)} refused", file=sys.stderr)
     return 1 if refused else 0
+
+
+def _check_folder(folder: Path) -> None:
+    """ValueError for a folder of the build of this checkout, which is no place for documents."""
+    serve = checkout_server()
+    if serve is None or not folder.resolve().is_relative_to(serve.parent):
+        return
+    names = folder.resolve().relative_to(serve.parent).parts
+    if names and (names[0] == BUILT or names[0] == "crates" and BUILT in names):
+        raise ValueError(f"{folder} is a folder of this checkout's build; name another one")
 
 
 def _parser() -> argparse.ArgumentParser:

@@ -2,7 +2,7 @@
 
 import time
 from collections import Counter
-from collections.abc import Iterable, Iterator
+from collections.abc import Iterator, Sequence
 from dataclasses import replace
 from pathlib import Path
 
@@ -16,21 +16,22 @@ PATIENCE = 15.0
 """So many seconds are spent on it, at most."""
 
 
-def shown(files: Iterable[Path], choices: XmlChoices) -> str:
+def shown(files: Sequence[Path], choices: XmlChoices) -> str:
     """How many of the files would load by which options, in a line; empty where none would.
 
     `choices` are those by which they were refused.
     """
     counts: Counter[str] = Counter()
     end = time.monotonic() + PATIENCE
-    looked = 0
+    tried = 0
     for file in files:
         if time.monotonic() > end:
             break
-        looked += 1
+        tried += 1
         counts.update(taking(file, choices))
     told = ", ".join(f"{count:,} by {options}" for options, count in _telling(counts))
-    return f"of {looked:,} refused that were tried, more would load: {told}" if told else ""
+    of = "" if tried == len(files) else f" (of the first {tried:,} of {len(files):,})"
+    return f"more would load by other options: {told}{of}" if told else ""
 
 
 def taking(file: Path, choices: XmlChoices) -> Iterator[str]:
