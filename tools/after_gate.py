@@ -29,12 +29,14 @@ TOP = pathlib.Path(__file__).resolve().parent.parent
 CLIENT = TOP / "clients" / "python"
 PYTHONS = (sys.executable, "/usr/bin/python3")
 PACKAGES = {
-    "test_cluster": ("aio_pika",), "test_page": ("aiohttp",), "test_toolkit": ("prompt_toolkit",),
-    "test_web": ("aiohttp",)
+    "test_cluster": ("aio_pika",), "test_page": ("aiohttp",), "test_page_tools": ("aiohttp",),
+    "test_page_values": ("aiohttp",), "test_toolkit": ("prompt_toolkit",),
+    "test_web": ("aiohttp",), "test_web_http": ("aiohttp",), "test_web_slow": ("aiohttp",)
 }
 """The Python packages that the client's long tests want, by their files."""
 PROGRAMS = {
-    "test_cluster": ("/usr/lib/rabbitmq/bin/rabbitmq-server", "epmd"), "test_page": ("chromium",),
+    "test_cluster": ("/usr/lib/rabbitmq/bin/rabbitmq-server", "epmd"),
+    "test_page": ("chromium",), "test_page_tools": ("chromium",), "test_page_values": ("chromium",),
     "test_xml_files": ("xmllint",),
 }
 ALLOCATIONS = {

@@ -12,14 +12,15 @@ from xqs.web_forms import (
     FORMS,
     JSON,
     LIST_FORMS,
+    OTHER_FORMS,
+    TEXT,
     TEXT_XML,
     XML,
     XQUERY,
     as_results,
-    as_xml,
     chosen,
-    list_as_json,
-    list_as_xml,
+    spelled_items,
+    spelled_list,
 )
 from xqs.web_guard import NAMES, TokenFault, check_host, check_origin, check_token, read_token
 from xqs.web_query import Asked, take_body
@@ -36,7 +37,9 @@ class FormsTest(unittest.TestCase):
                              ("application/xml;q=0.1, application/xquery;q=0.2", XQUERY),
                              ("application/*;q=0.5, application/xml;q=0", XQUERY),
                              ("APPLICATION/XQUERY;Q=1", XQUERY), ("application/xquery;q=x", None),
-                             ("image/png", None), ("*/*;q=0", None), ("application/json", None)):
+                             ("application/xml;q=nan", None), ("application/xml;q=2", None),
+                             ("application/json", JSON), ("text/plain", TEXT),
+                             ("image/png", None), ("*/*;q=0", None)):
             with self.subTest(accept=accept):
                 if form:
                     self.assertEqual(chosen(accept, FORMS), form)
@@ -44,28 +47,47 @@ class FormsTest(unittest.TestCase):
                     with self.assertRaises(HttpRefusal) as caught:
                         chosen(accept, FORMS)
                     self.assertEqual(caught.exception.status, 406)
+        self.assertEqual(chosen(browser, OTHER_FORMS), TEXT)
         self.assertEqual(chosen("application/json", LIST_FORMS), JSON)
 
-    def test_items_as_xml(self) -> None:
+    def test_items_as_xml_and_as_plain_text(self) -> None:
         text = ('1, -2.5, true(), xs:untypedAtomic("u"), "a<b", document {element p__a {'
-                'attribute i {"<"}, text {"t"}}}, attribute p__b {"v"}, comment {"c"}')
-        self.assertEqual(as_xml(text, "keep").split("\n"), [
-            "1", "-2.5", "true", "u", "a&lt;b", '<p__a i="&lt;">t</p__a>', 'p__b="v"', "<!--c-->"])
-        self.assertEqual(as_xml(text, "flat").split("\n")[5:7],
+                'attribute i {"<"}, text {"t"}}}, attribute p__b {"v"}, comment {"c"}, '
+                'text {"&amp;"}')
+        items = list(spelled_items(text, "keep"))
+        nodes = ['<p__a i="&lt;">t</p__a>', 'p__b="v"', "<!--c-->"]
+        self.assertEqual([it.xml for it in items],
+                         ["1", "-2.5", "true", "u", "a&lt;b", *nodes, "&amp;"])
+        self.assertEqual([it.plain for it in items],
+                         ["1", "-2.5", "true", "u", "a<b", *nodes, "&"])
+        self.assertEqual([it.xml for it in spelled_items(text, "flat")][5:7],
                          ['<p:a i="&lt;">t</p:a>', 'p:b="v"'])
-        self.assertEqual(as_xml("()", "keep"), "")
+        self.assertEqual(list(spelled_items("()", "keep")), [])
+
+    def test_what_is_a_text_of_xml_by_itself(self) -> None:
+        for text, is_whole in (
+                ("element a {}", True), ('element a {text {"x"}, element b {}}', True),
+                ("document {element a {}}", True), ("document {}", False), ("1", False),
+                ('document {comment {"c"}, element a {}, processing-instruction p {""}}', True),
+                ("document {element a {}, element b {}}", False), ('attribute a {"1"}', False),
+                ('document {text {" "}, element a {}}', False), ('comment {"c"}', False),
+                ('element a {comment {"&#xD;"}}', False), ('element a {text {"&#xD;"}}', True)):
+            with self.subTest(text=text):
+                [item] = spelled_items(text, "keep")
+                self.assertEqual(item.is_whole, is_whole)
 
     def test_items_as_one_document(self) -> None:
-        self.assertEqual(as_results('2, text {"t"}, document {}', "keep"),
+        self.assertEqual(as_results(spelled_items('2, text {"t"}, document {}', "keep")),
                          '<rest:results xmlns:rest="http://basex.org/rest">'
                          '<rest:result type="xs:integer">2</rest:result>'
                          '<rest:result type="text()">t</rest:result>'
                          '<rest:result type="document-node()"></rest:result></rest:results>')
 
     def test_lists(self) -> None:
-        self.assertEqual(list_as_json(["a", "b/c"]), '["a", "b/c"]')
+        for form, text in ((JSON, '["a", "b/c"]'), (TEXT, "a\nb/c\n"), (XQUERY, '"a", "b/c"')):
+            self.assertEqual(spelled_list(["a", "b/c"], form), text)
         self.assertIn('resources="1"><rest:resource type="xml">a</rest:resource>',
-                      list_as_xml(["a"]))
+                      spelled_list(["a"], XML))
 
 
 class QueryTest(unittest.TestCase):

@@ -20,12 +20,15 @@ from xqs.endpoints import Command, Endpoint, UnixSocket
 from xqs.multiplexer import Multiplexer, is_on_file
 from xqs.mux_clients import Settings
 from xqs.mux import add_limits, duration, positive, settings_of, split_command, until_signal
+from xqs.web_connections import Connections
 from xqs.web_guard import NAMES, read_token
 from xqs.web_rest import MAX_LINE, Rest, WebSettings
 from xqs.xml_names import Names
 
 USAGE = "xqs web [OPTIONS] [-- COMMAND [WORDS]]"
 DEFAULTS = WebSettings()
+LAST_ANSWERS = 60.0
+"""So many seconds answers under way have after the signal that ends all."""
 
 
 say = partial(mux.say, command="web")
@@ -75,18 +78,36 @@ async def run(where: str, place: Endpoint, settings: Settings, options: WebSetti
     async with multiplexed(place, settings, again) as (server, failed):
         logging.getLogger("aiohttp.server").addFilter(is_own_fault)
         application = Rest(server, options).application()
-        runner = web.AppRunner(
-            application, access_log=None, max_line_size=MAX_LINE, max_field_size=MAX_LINE
-        )
-        await runner.setup()
-        try:
-            listener = listening.listen(f"tcp:{where}")
-            await web.SockSite(runner, listener).start()
-            say(f"listens at http://{listening.name_of(listener).removeprefix('tcp:')}/")
+        async with served(application, where, options) as name:
+            say(f"listens at http://{name}/")
             await until_signal(failed, again)
-        finally:
-            await runner.cleanup()
     return 1 if failed.is_set() else 0
+
+
+@asynccontextmanager
+async def served(
+    application: web.Application, where: str, options: WebSettings
+) -> AsyncIterator[str]:
+    """While the application is served at a port of loopback; the name of that.
+
+    At the end answers under way are given. Raises PlaceError.
+    """
+    runner = web.AppRunner(
+        application, access_log=None, max_line_size=MAX_LINE, max_field_size=MAX_LINE
+    )
+    await runner.setup()
+    assert runner.server is not None
+    try:
+        listener = listening.listen(f"tcp:{where}")
+        connections = Connections(runner.server, options.connections, options.head)
+        loop = asyncio.get_running_loop()
+        server = await loop.create_server(connections, sock=listener)
+        yield listening.name_of(listener).removeprefix("tcp:")
+        server.close()
+        await runner.shutdown()
+        await runner.server.shutdown(LAST_ANSWERS)
+    finally:
+        await runner.cleanup()
 
 
 def parser() -> argparse.ArgumentParser:
@@ -108,6 +129,10 @@ def parser() -> argparse.ArgumentParser:
            help="the most bytes of a document that is put (%(default)s)")
     option("--wait", type=duration, metavar="SECONDS", default=DEFAULTS.wait,
            help="how long the next piece of a body or an answer may take (%(default)g)")
+    option("--head", type=duration, metavar="SECONDS", default=DEFAULTS.head,
+           help="how long the head of a request may take (%(default)g)")
+    option("--connections", type=positive, metavar="N", default=DEFAULTS.connections,
+           help="connections at once (%(default)s); the one that has waited longest is closed")
     option("--requests", type=positive, metavar="N", default=DEFAULTS.requests,
            help="requests that are carried out at once (%(default)s)")
     add_limits(result)
@@ -126,7 +151,8 @@ def main(words: Sequence[str] | None = None) -> int:
     token = read_token(given.token_file) if given.token_file else None
     options = replace(
         DEFAULTS, hosts=NAMES | {name.lower() for name in given.host}, token=token,
-        names=Names(given.names), body=given.body, wait=given.wait, requests=given.requests,
+        names=Names(given.names), body=given.body, wait=given.wait, head=given.head,
+        requests=given.requests, connections=given.connections,
     )
     if isinstance(place, Command) and not is_on_file(place.words):
         say("the documents live in memory: they are lost whenever the server ends")

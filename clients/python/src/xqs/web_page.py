@@ -1,24 +1,95 @@
-"""The page of `xqs web`, and what a browser is told of it."""
+"""The page of `xqs web`: its files, those of CodeMirror where that is installed, and what a browser
+is told of them."""
 
-import base64
-import hashlib
-import re
+import json
+from collections.abc import Callable
+from dataclasses import dataclass
 from importlib import resources
+from pathlib import Path
+
+from aiohttp import web
+
+from xqs import places
+from xqs.web_status import HttpRefusal
+from xqs.xml_names import Names
+
+POLICY = (
+    "default-src 'none'; script-src 'self'; style-src 'self'; connect-src 'self'; "
+    "img-src 'self' data:; base-uri 'none'; form-action 'none'; frame-ancestors 'none'; "
+    "require-trusted-types-for 'script'; trusted-types 'none'"
+)
+"""The browser runs the page's own scripts and uses its own styles, and no other."""
+CODEMIRROR = Path("/usr/share/javascript/codemirror")
+"""Where Debian's package libjs-codemirror has its files."""
+EDITOR = {
+    "codemirror.css": "lib/codemirror.css",
+    "show-hint.css": "addon/hint/show-hint.css",
+    "codemirror.js": "lib/codemirror.js",
+    "xquery.js": "mode/xquery/xquery.js",
+    "matchbrackets.js": "addon/edit/matchbrackets.js",
+    "closebrackets.js": "addon/edit/closebrackets.js",
+    "show-hint.js": "addon/hint/show-hint.js",
+}
+"""The files of the editor in the order in which the page has them, by their names there."""
+HTML, WORDS = "page.html", "words.json"
+TYPES = {".html": "text/html", ".css": "text/css", ".js": "text/javascript",
+         ".json": "application/json"}
+MARK = "<!-- editor -->"
+"""In the page's place of this stand the files of the editor."""
 
 
-def page() -> tuple[str, str]:
-    """The page, and the policy by which a browser runs its own script and style and no other."""
-    text = resources.files("xqs").joinpath("page.html").read_text(encoding="utf-8")
-    policy = (
-        "default-src 'none'; connect-src 'self'; img-src data:; base-uri 'none'; "
-        f"form-action 'none'; frame-ancestors 'none'; script-src {_digest(text, 'script')}; "
-        f"style-src {_digest(text, 'style')}; require-trusted-types-for 'script'"
-    )
-    return text, policy
+@dataclass(frozen=True)
+class Page:
+    """The page, in which names with a colon are written as `names` says, and by which documents can
+    be stored where that is allowed."""
+
+    names: Names
+    can_change: bool
+
+    def response(self, name: str) -> web.Response:
+        """A file of the page; the page itself for an empty name. HttpRefusal 404."""
+        read = self._reader(name or HTML)
+        if read is None:
+            raise HttpRefusal(404, "xqs:HTTP", f"there is no /page/{name}")
+        kind = TYPES[Path(name or HTML).suffix]
+        headers = {} if name else {"Content-Security-Policy": POLICY}
+        return web.Response(text=read(), content_type=kind, headers=headers)
+
+    def _reader(self, name: str) -> Callable[[], str] | None:
+        """What reads a file of that name; None where there is none."""
+        if name == HTML:
+            return self._html
+        if name == WORDS:
+            return words
+        if name in EDITOR:
+            file = CODEMIRROR / EDITOR[name]
+            return lambda: file.read_text(encoding="utf-8")
+        own = resources.files("xqs").joinpath("page", name)
+        if Path(name).suffix in TYPES and "/" not in name and own.is_file():
+            return lambda: own.read_text(encoding="utf-8")
+        return None
+
+    def _html(self) -> str:
+        text = resources.files("xqs").joinpath("page", HTML).read_text(encoding="utf-8")
+        for mark, holds in (("{flat}", self.names is Names.FLAT), ("{changes}", self.can_change)):
+            text = text.replace(mark, json.dumps(holds))
+        return text.replace(MARK, editor_tags())
 
 
-def _digest(text: str, element: str) -> str:
-    found = re.search(rf"<{element}>(.*?)</{element}>", text, re.DOTALL)
-    content = found[1] if found else ""
-    digest = hashlib.sha256(content.encode()).digest()
-    return f"'sha256-{base64.b64encode(digest).decode()}'"
+def editor_tags() -> str:
+    """The elements by which the page has the editor; none where a file of it is missing."""
+    if not all((CODEMIRROR / file).is_file() for file in EDITOR.values()):
+        return ""
+    return "\n".join(map(_tag, EDITOR))
+
+
+def _tag(name: str) -> str:
+    if name.endswith(".css"):
+        return f'<link rel="stylesheet" href="/page/{name}">'
+    return f'<script src="/page/{name}" defer></script>'
+
+
+def words() -> str:
+    """The words that a query may go on to, as JSON."""
+    functions = [*places.FUNCTIONS, *(f"xs:{it}" for it in places.TYPES)]
+    return json.dumps({"functions": sorted(functions), "keywords": sorted(places.KEYWORDS)})

@@ -2,17 +2,59 @@
 
 import re
 import xml.etree.ElementTree as ElementTree
-from collections.abc import Iterable
+from collections.abc import Iterable, Iterator
 from dataclasses import dataclass, field
 
 from xqs.queries import q
 from xqs.values import quoted
+from xqs.web_charset import decoded
 from xqs.web_forms import NAMESPACE
 from xqs.web_status import HttpRefusal
 from xqs.xml_out import FLAT, KEEP
 
 YES, NO = ("yes", "true", "1"), ("no", "false", "0")
 VARIABLE = re.compile(r"\$?([A-Za-z_]\w*)")
+
+
+class Parameters:
+    """The parameters of a URL, each of which is given once."""
+
+    def __init__(self, pairs: Iterable[tuple[str, str]]) -> None:
+        """HttpRefusal where one is given twice."""
+        self._values: dict[str, str] = {}
+        for name, value in pairs:
+            if name in self._values:
+                raise HttpRefusal(400, "xqs:REQUEST", f"the parameter {name} is given twice")
+            self._values[name] = value
+
+    def __contains__(self, name: str) -> bool:
+        return name in self._values
+
+    def __iter__(self) -> Iterator[str]:
+        return iter(self._values)
+
+    def items(self) -> Iterable[tuple[str, str]]:
+        """Names and values, in their order."""
+        return self._values.items()
+
+    def only(self, names: Iterable[str]) -> dict[str, str]:
+        """The values by their names; HttpRefusal where there is one of another name."""
+        for name in self._values:
+            if name not in names:
+                raise unknown_parameter(name)
+        return self._values
+
+
+def unknown_parameter(name: str) -> HttpRefusal:
+    """The refusal of a parameter that means nothing here: it is not passed over."""
+    return HttpRefusal(400, "xqs:REQUEST", f"there is no parameter {name} here")
+
+
+def whole_number(name: str, value: str) -> int:
+    """A whole number from 1; else HttpRefusal."""
+    if not re.fullmatch("[0-9]{1,9}", value) or int(value) < 1:
+        raise HttpRefusal(400, "xqs:REQUEST", f"{name} is a whole number from 1, not {value!r}")
+    return int(value)
 
 
 @dataclass
@@ -36,7 +78,7 @@ class Asked:
             case _ if name.startswith("$"):
                 self.bind(name, value)
             case _:
-                raise HttpRefusal(400, "xqs:REQUEST", f"there is no parameter {name}")
+                raise unknown_parameter(name)
 
     def bind(self, name: str, value: str) -> None:
         """Binds a variable to a string."""
@@ -83,12 +125,15 @@ class _Builder(ElementTree.TreeBuilder):
         raise HttpRefusal(400, "xqs:XML", "a query has no DOCTYPE")
 
 
-def take_body(asked: Asked, body: bytes) -> None:
-    """Takes the query of a body of XML, `<query><text>..</text><variable ../></query>`.
+def take_body(asked: Asked, body: bytes, charset: str | None = None) -> None:
+    """Takes the query of a body of XML, `<query><text>..</text><variable ../></query>`, in a
+    character set that may be known beside it.
 
     HttpRefusal where it is none.
     """
-    parser = ElementTree.XMLParser(target=_Builder())
+    if charset:
+        body, charset = decoded(body, charset).encode(), "utf-8"
+    parser = ElementTree.XMLParser(target=_Builder(), encoding=charset)
     try:
         parser.feed(body)
         root: ElementTree.Element = parser.close()

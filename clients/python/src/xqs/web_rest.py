@@ -4,6 +4,7 @@ import asyncio
 import io
 import tempfile
 import time
+import urllib.parse
 from collections.abc import AsyncIterator, Awaitable, Callable, Mapping
 from contextlib import asynccontextmanager
 from dataclasses import dataclass
@@ -14,34 +15,30 @@ from aiohttp import web
 from xqs import aio, client, protocol
 from xqs.endpoints import Endpoint
 from xqs.errors import Refused
-from xqs.fetch import document_events
 from xqs.stores import chunks_of, store_constructors, store_xml
-from xqs.web_forms import (
-    FORMS,
-    JSON,
-    LIST_FORMS,
-    TEXT_XML,
-    XML,
-    XQUERY,
-    as_results,
-    as_xml,
-    chosen,
-    list_as_json,
-    list_as_xml,
-    write_events,
-)
+from xqs.temporary import is_temporary
+from xqs.web_answers import Body, Wanted, answer_of, document_in_parts
+from xqs.web_bodies import charset_of, media_type, receive, received_query
+from xqs.web_charset import decoded
+from xqs.web_connections import at_work
+from xqs.web_files import ZIP, addresses_as_json, write_archive
+from xqs.web_forms import JSON, LIST_FORMS, XQUERY, chosen, spelled_list
 from xqs.web_guard import CHANGES, NAMES, check_host, check_origin, check_token
-from xqs.web_page import page
-from xqs.web_query import Asked, choice, take_body
+from xqs.web_lists import LIST_PARAMETERS, listing_of
+from xqs.web_locks import Locks
+from xqs.web_page import Page
+from xqs.web_query import Asked, Parameters, choice, take_body
 from xqs.web_send import send
 from xqs.web_status import CODE, HttpRefusal, placed, refusal_of
+from xqs.web_store import drop_if, store_if
+from xqs.web_tags import Conditions, NotModified, conditions_of, etag, state_of, tag, tag_of_file
 from xqs.xml_in import XmlChoices
 from xqs.xml_names import Names
 from xqs.xml_out import FLAT, KEEP
 
 Handler = Callable[[web.Request], Awaitable[web.StreamResponse]]
 T = TypeVar("T")
-SHORT = 1 << 18
+SHORT = 1 << 16
 """A reply of so many characters is put into another form at once, a longer one in a thread."""
 MAX_LINE = 1 << 16
 """The longest line of a request's head, in bytes."""
@@ -49,11 +46,14 @@ HEADERS = {
     "Cache-Control": "no-store",
     "Content-Security-Policy": "default-src 'none'; frame-ancestors 'none'; sandbox",
     "Cross-Origin-Opener-Policy": "same-origin",
+    "Cross-Origin-Embedder-Policy": "require-corp",
     "Cross-Origin-Resource-Policy": "same-origin",
     "Referrer-Policy": "no-referrer",
     "X-Content-Type-Options": "nosniff",
+    "X-Frame-Options": "DENY",
 }
 """What each answer says to browsers: it is no page, and no other page's."""
+LIST_METHODS, DOCUMENT_METHODS = "GET, HEAD, POST, OPTIONS", "GET, HEAD, POST, PUT, DELETE, OPTIONS"
 
 
 @dataclass(frozen=True)
@@ -62,7 +62,8 @@ class WebSettings:
 
     `names` is what becomes of names with a colon in XML, where a request does not say it: a choice
     of `Names`. `body` is the most bytes of a body, `wait` the seconds for the next piece of a body
-    or of an answer, and `requests` how many are carried out and answered at once.
+    or of an answer, `head` those for the head of a request. `requests` is how many are carried out
+    at once, `connections` how many there are at once.
     """
 
     hosts: frozenset[str] = NAMES
@@ -70,7 +71,9 @@ class WebSettings:
     names: Names = Names.REFUSE
     body: int = 256 << 20
     wait: float = 60.0
+    head: float = 20.0
     requests: int = 64
+    connections: int = 1000
 
 
 async def in_thread_if(long: bool, function: Callable[..., T], *arguments: object) -> T:
@@ -87,23 +90,30 @@ class Rest:
         self._place = place
         self._settings = settings
         self._room = asyncio.Semaphore(settings.requests)
-        self._page, self._page_policy = page()
+        self._locks = Locks()
+        self._page = Page(settings.names, settings.token is not None)
 
     def application(self) -> web.Application:
         """The application, with its routes and its guard."""
         @web.middleware
         async def guard(request: web.Request, handler: Handler) -> web.StreamResponse:
-            return await self._guarded(request, handler)
+            with at_work(request):
+                return await self._guarded(request, handler)
 
         application = web.Application(middlewares=[guard])
         application.add_routes([
             web.get("/", self.get_page),
-            web.get("/rest", self.get_all),
-            web.post("/rest", self.post),
+            web.get("/page/{name}", self.get_page),
+            web.post("/page/addresses", self.post_paths),
+            web.get("/archive", self.get_archive),
+            web.get("/rest{slash:/?}", self.get_all),
+            web.post("/rest{slash:/?}", self.post),
+            web.options("/rest{slash:/?}", self.options),
             web.get("/rest/{address:.+}", self.get),
             web.post("/rest/{address:.+}", self.post),
             web.put("/rest/{address:.+}", self.put),
             web.delete("/rest/{address:.+}", self.delete),
+            web.options("/rest/{address:.+}", self.options),
         ])
         application.on_response_prepare.append(_add_headers)
         return application
@@ -116,6 +126,8 @@ class Rest:
             token = self._settings.token
             check_token(request.method, request.headers.get("Authorization"), token)
             return await handler(request)
+        except NotModified as error:
+            return web.Response(status=304, headers=etag(error.tag))
         except web.HTTPException as error:
             headers = {"Allow": error.headers["Allow"]} if "Allow" in error.headers else {}
             return _refused(HttpRefusal(error.status, "xqs:HTTP", error.reason, headers))
@@ -128,155 +140,206 @@ class Rest:
     @asynccontextmanager
     async def _client(self) -> AsyncIterator[aio.AsyncClient]:
         """A connection of the request's own, so that each has its turn among the others."""
-        connection = await aio.connect(self._place)
-        try:
-            yield connection
-        finally:
-            await connection.close()
+        async with self._room:
+            connection = await aio.connect(self._place)
+            try:
+                yield connection
+            finally:
+                await connection.close()
 
-    async def get_page(self, _: web.Request) -> web.Response:
-        """The page."""
-        policy = {"Content-Security-Policy": self._page_policy}
-        return web.Response(text=self._page, content_type="text/html", headers=policy)
+    async def get_page(self, request: web.Request) -> web.Response:
+        """The page, or a file of it."""
+        parameters_of(request).only(())
+        return self._page.response(request.match_info.get("name", ""))
+
+    async def post_paths(self, request: web.Request) -> web.Response:
+        """The addresses that files have by their paths."""
+        parameters_of(request).only(())
+        media_type(request, (JSON,))
+        body = await received_query(request, self._settings.wait)
+        return web.Response(text=addresses_as_json(body), content_type=JSON)
+
+    async def get_archive(self, request: web.Request) -> web.StreamResponse:
+        """The documents below a prefix, as files of a ZIP archive."""
+        words = parameters_of(request).only(("prefix", "names"))
+        names = choice("names", words.get("names", self._keep_or_flat), (KEEP, FLAT))
+        with tempfile.TemporaryFile() as file:
+            out = cast(BinaryIO, file)
+            async with self._room:
+                await asyncio.to_thread(self._archive, words.get("prefix", ""), names, out)
+            headers = {"Content-Disposition": 'attachment; filename="documents.zip"'}
+            return await self._send(request, Body(ZIP, tag_of_file(out), out), headers)
+
+    def _archive(self, prefix: str, names: str, file: BinaryIO) -> None:
+        with client.connect(self._place) as connection:
+            write_archive(connection, prefix, names, file)
+
+    @property
+    def _keep_or_flat(self) -> str:
+        """What becomes of names with a colon in answers, where a request does not say it."""
+        return FLAT if self._settings.names is Names.FLAT else KEEP
+
+    async def options(self, request: web.Request) -> web.Response:
+        """The methods that there are at a path."""
+        is_document = "address" in request.match_info
+        allow = DOCUMENT_METHODS if is_document else LIST_METHODS
+        return web.Response(status=204, headers={"Allow": allow})
 
     async def get_all(self, request: web.Request) -> web.StreamResponse:
         """The answer to the query of the URL; the addresses, where there is none."""
-        if request.query:
-            return await self._answer(request, self._asked(request), "")
+        given = parameters_of(request)
+        if not all(name in LIST_PARAMETERS for name in given):
+            return await self._answer(request, self._asked(given), "")
+        listing = listing_of(given)
         form = chosen(request.headers.get("Accept"), LIST_FORMS)
-        spell = {JSON: list_as_json, XQUERY: _list_as_xquery}.get(form, list_as_xml)
-        async with self._room:
-            async with self._client() as connection:
-                addresses = await connection.list()
-            return await self._send(request, spell(addresses), form, {})
+        async with self._client() as connection:
+            addresses = await connection.list()
+        addresses, headers = listing.page(addresses)
+        text = spelled_list(addresses, form)
+        body = Body(form, tag(state_of(text), form), io.BytesIO(text.encode()))
+        return await self._send(request, body, headers)
 
     async def get(self, request: web.Request) -> web.StreamResponse:
         """A document, or the answer to the query of the URL about it."""
-        return await self._answer(request, self._asked(request), address_of(request))
+        return await self._answer(request, self._asked(parameters_of(request)), address_of(request))
 
     async def post(self, request: web.Request) -> web.StreamResponse:
         """The answer to the query of the body, about a document where there is an address."""
-        asked, kind = self._asked(request), content_type(request)
-        if kind not in (XML, TEXT_XML, XQUERY):
-            raise wrong_type(kind)
-        body = io.BytesIO()
-        await self._receive(request, body, protocol.MAX_REQUEST)
+        asked, kind = self._asked(parameters_of(request)), media_type(request)
+        charset = charset_of(request)
+        if asked.text is not None:
+            raise HttpRefusal(400, "xqs:REQUEST", "the query of a POST is its body")
+        body = await received_query(request, self._settings.wait)
         if kind == XQUERY:
-            asked.text = decoded(body.getvalue())
+            asked.text = decoded(body, charset)
         else:
-            take_body(asked, body.getvalue())
+            take_body(asked, body, charset)
         address = address_of(request) if "address" in request.match_info else ""
         return await self._answer(request, asked, address)
 
-    def _asked(self, request: web.Request) -> Asked:
-        asked = Asked(names=FLAT if self._settings.names is Names.FLAT else KEEP)
-        for name, value in request.query.items():
+    def _asked(self, given: Parameters) -> Asked:
+        asked = Asked(names=self._keep_or_flat)
+        for name, value in given.items():
             asked.take(name, value)
         return asked
 
     async def _answer(
         self, request: web.Request, asked: Asked, address: str
     ) -> web.StreamResponse:
-        form = chosen(request.headers.get("Accept"), FORMS)
+        wanted = Wanted(request.headers.get("Accept"), asked.names, asked.is_wrapped)
+        wanted.check()
         query = asked.query(address)
-        async with self._room:
-            begin = time.perf_counter()
-            try:
-                async with self._client() as connection:
-                    text = await connection.query_text(query)
-            except Refused as error:
-                if error.code == "prof:REPLY" and address and asked.is_whole():
-                    return await self._answer_in_parts(request, asked, address, form)
-                raise placed(error, asked.text or "") from error
-            took = time.perf_counter() - begin
-            if form != XQUERY:
-                spell = as_results if asked.is_wrapped else as_xml
-                text = await in_thread_if(len(text) > SHORT, spell, text, asked.names)
-            timing = {"Server-Timing": f"server;dur={took * 1000:.3f}"}
-            return await self._send(request, text, form, timing)
+        try:
+            async with self._client() as connection:
+                begin = time.perf_counter()
+                text = await connection.query_text(query)
+                took = time.perf_counter() - begin
+        except Refused as error:
+            if error.code == "prof:REPLY" and address and asked.is_whole():
+                return await self._answer_in_parts(request, wanted, address)
+            raise placed(error, asked.text or "") from error
+        body = await in_thread_if(len(text) > SHORT, answer_of, text, wanted)
+        timing = {"Server-Timing": f"server;dur={took * 1000:.3f}"}
+        return await self._send(request, body, timing)
 
     async def _send(
-        self, request: web.Request, text: str, form: str, headers: Mapping[str, str]
+        self, request: web.Request, body: Body, headers: Mapping[str, str]
     ) -> web.StreamResponse:
-        body = io.BytesIO(text.encode())
-        return await send(request, body, form, headers, self._settings.wait)
+        try:
+            conditions_of(request.headers).check(body.tag)
+        except NotModified as error:
+            if request.method == "POST":
+                raise HttpRefusal(412, "xqs:CONDITION", "If-None-Match has the answer") from error
+            raise
+        return await send(request, body, headers, self._settings.wait)
 
     async def _answer_in_parts(
-        self, request: web.Request, asked: Asked, address: str, form: str
+        self, request: web.Request, wanted: Wanted, address: str
     ) -> web.StreamResponse:
         """A document that is too long for one reply, by way of a file."""
         with tempfile.TemporaryFile() as file:
-            body = cast(BinaryIO, file)
-            await asyncio.to_thread(self._fetch, address, form, asked.names, body)
-            return await send(request, body, form, {}, self._settings.wait)
+            async with self._room:
+                body = await asyncio.to_thread(
+                    self._in_parts, address, wanted, cast(BinaryIO, file))
+            return await self._send(request, body, {})
 
-    def _fetch(self, address: str, form: str, names: str, file: BinaryIO) -> None:
-        text = io.TextIOWrapper(file, encoding="utf-8", newline="", write_through=True)
-        try:
-            with client.connect(self._place) as connection:
-                write_events(document_events(connection, address), form, names, text.write)
-        except Refused as error:
-            # What can't be copied, since nothing can be stored, can't be had in parts.
-            raise Refused("prof:REPLY") if error.code == "xqs:READONLY" else error from error
-        finally:
-            text.detach()
+    def _in_parts(self, address: str, wanted: Wanted, file: BinaryIO) -> Body:
+        with client.connect(self._place) as connection:
+            return document_in_parts(connection, address, wanted, file)
 
     async def put(self, request: web.Request) -> web.Response:
         """Stores a document of XML or of constructors; 201 where the address had none."""
-        address, kind = address_of(request), content_type(request)
-        if kind not in (XML, TEXT_XML, XQUERY) and not kind.endswith("+xml"):
-            raise wrong_type(kind)
-        given = request.query.get("names", self._settings.names.value)
+        address, kind = address_of(request), media_type(request)
+        if is_temporary(address):
+            raise HttpRefusal(403, "xqs:TEMPORARY", "addresses below xqs.temporary/ are the "
+                              "client's own, and what is there is dropped")
+        charset, conditions = charset_of(request), conditions_of(request.headers)
+        words = parameters_of(request).only(("names",))
+        given = words.get("names", self._settings.names.value)
         names = Names(choice("names", given, [it.value for it in Names]))
         with tempfile.SpooledTemporaryFile(max_size=protocol.MAX_REQUEST) as file:
             body = cast(BinaryIO, file)
-            await self._receive(request, body, self._settings.body)
+            await receive(request, body, self._settings.body, self._settings.wait)
             body.seek(0)
-            store = self._store_xquery if kind == XQUERY else self._store_xml
-            async with self._room:
-                replaced = await asyncio.to_thread(store, address, body, names)
-        return web.Response(status=200 if replaced else 201, text=_stored(replaced))
+            store = _StoreXquery if kind == XQUERY else _StoreXml
+            async with self._locks.held(address), self._room:
+                replaced = await asyncio.to_thread(
+                    self._store, store(address, body, names, charset), address, conditions)
+        if replaced:
+            return web.Response(text="replaced\n")
+        location = {"Location": f"/rest/{urllib.parse.quote(address)}"}
+        return web.Response(status=201, text="stored\n", headers=location)
 
-    async def _receive(self, request: web.Request, body: BinaryIO, most: int) -> None:
-        """Takes the body of a request into a file, within the limits of size and time."""
-        size = request.content_length or 0
-        while size <= most:
-            try:
-                piece = await asyncio.wait_for(request.content.readany(), self._settings.wait)
-            except asyncio.TimeoutError:
-                raise HttpRefusal(408, "xqs:SLOW", "the rest of the body has not come") from None
-            if not piece:
-                return
-            body.write(piece)
-            size = body.tell()
-        raise HttpRefusal(413, "xqs:LARGE", f"the body has more than {most} bytes")
-
-    def _store_xml(self, address: str, body: BinaryIO, names: Names) -> bool:
-        choices = XmlChoices(names=names)
+    def _store(self, document: "_Document", address: str, conditions: Conditions) -> bool:
         with client.connect(self._place) as connection:
-            return store_xml(connection, address, chunks_of(body), address, choices).replaced
-
-    def _store_xquery(self, address: str, body: BinaryIO, _: Names) -> bool:
-        text = decoded(body.read())
-        with client.connect(self._place) as connection:
-            if body.tell() + protocol.MAX_ADDRESS < protocol.MAX_REQUEST:
-                return connection.store(address, text)
-            return store_constructors(connection, address, text).replaced
+            if not conditions.is_given:
+                return document.store(connection, address)
+            return store_if(
+                connection, address, conditions, lambda at: document.store(connection, at))
 
     async def delete(self, request: web.Request) -> web.Response:
         """Drops a document."""
-        address = address_of(request)
-        async with self._room, self._client() as connection:
-            await connection.drop(address)
+        parameters_of(request).only(())
+        address, conditions = address_of(request), conditions_of(request.headers)
+        async with self._locks.held(address), self._room:
+            await asyncio.to_thread(self._drop, address, conditions)
         return web.Response(text="dropped\n")
 
+    def _drop(self, address: str, conditions: Conditions) -> None:
+        with client.connect(self._place) as connection:
+            if conditions.is_given:
+                drop_if(connection, address, conditions)
+            else:
+                connection.drop(address)
 
-def _stored(replaced: bool) -> str:
-    return "replaced\n" if replaced else "stored\n"
+
+@dataclass(frozen=True)
+class _Document:
+    """The body of a PUT, and what is to be made of it."""
+
+    name: str
+    body: BinaryIO
+    names: Names
+    charset: str | None
+
+    def store(self, connection: client.Client, address: str) -> bool:
+        """Stores the document; whether it replaced another one."""
+        raise NotImplementedError
 
 
-def _list_as_xquery(addresses: list[str]) -> str:
-    return ", ".join(f'"{it}"' for it in addresses) or "()"
+class _StoreXml(_Document):
+    def store(self, connection: client.Client, address: str) -> bool:
+        choices = XmlChoices(names=self.names)
+        stored = store_xml(connection, address, chunks_of(self.body), self.name, choices)
+        return stored.replaced
+
+
+class _StoreXquery(_Document):
+    def store(self, connection: client.Client, address: str) -> bool:
+        text = decoded(self.body.read(), self.charset)
+        if self.body.tell() + protocol.MAX_ADDRESS < protocol.MAX_REQUEST:
+            return connection.store(address, text)
+        return store_constructors(connection, address, text).replaced
 
 
 def _refused(refusal: HttpRefusal) -> web.Response:
@@ -290,6 +353,11 @@ async def _add_headers(_: web.Request, response: web.StreamResponse) -> None:
     response.headers["Server"] = "xqs"
 
 
+def parameters_of(request: web.Request) -> Parameters:
+    """The parameters of a request's URL; HttpRefusal where one is given twice."""
+    return Parameters(request.query.items())
+
+
 def address_of(request: web.Request) -> str:
     """The address in the path of a request; HttpRefusal where it is none."""
     address = request.match_info["address"]
@@ -298,21 +366,3 @@ def address_of(request: web.Request) -> str:
     except ValueError as error:
         raise HttpRefusal(400, "prof:ADDRESS", str(error)) from error
     return address
-
-
-def content_type(request: web.Request) -> str:
-    """The media type of a request's body; XML where none is named."""
-    return request.content_type if "Content-Type" in request.headers else XML
-
-
-def wrong_type(kind: str) -> HttpRefusal:
-    """The refusal of a body of another media type."""
-    return HttpRefusal(415, "xqs:TYPE", f"a body is {XML} or {XQUERY}, not {kind}")
-
-
-def decoded(body: bytes) -> str:
-    """The text of a body; HttpRefusal where it is not UTF-8."""
-    try:
-        return body.decode()
-    except UnicodeDecodeError as error:
-        raise HttpRefusal(400, "prof:UTF8", str(error)) from error

@@ -34,7 +34,7 @@ class XmlWriter:
     def __init__(self, write: Callable[[str], object], names: str = KEEP) -> None:
         """`names` is `keep`, or `flat` to turn flat names back (`p__a` into `p:a`)."""
         self._write = write
-        self._name = outgoing if is_flat(names) else _same
+        self._name = speller(names)
         self._open: list[str] = []
         self._in_tag = False
 
@@ -57,7 +57,7 @@ class XmlWriter:
             case Close():
                 self._close(self._open.pop())
             case Atom(atom):
-                self._write(_atom_text(atom).translate(_IN_TEXT))
+                self._write(atom_text(atom).translate(_IN_TEXT))
 
     def _end_tag(self) -> None:
         if self._in_tag:
@@ -79,11 +79,17 @@ class XmlWriter:
         return f"<?{self._name(name)} {value}?>" if value else f"<?{self._name(name)}?>"
 
 
+def speller(names: str) -> Callable[[str], str]:
+    """What spells a stored name in XML; `names` as for XmlWriter."""
+    return outgoing if is_flat(names) else _same
+
+
 def _same(name: str) -> str:
     return name
 
 
-def _atom_text(atom: object) -> str:
+def atom_text(atom: object) -> str:
+    """An atomic value as text, without quotes and escapes."""
     if isinstance(atom, bool):
         return "true" if atom else "false"
     return str(atom)

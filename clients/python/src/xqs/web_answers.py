@@ -1,0 +1,126 @@
+"""Answers on their way from the server's text to the form that a request likes best."""
+
+import io
+from collections.abc import Callable, Iterable, Sequence
+from dataclasses import dataclass, field
+from typing import BinaryIO
+
+from xqs.client import Client
+from xqs.constructors import ConstructorWriter
+from xqs.errors import Refused
+from xqs.fetch import document_events
+from xqs.values import Event
+from xqs.web_forms import (
+    FORMS,
+    JSON,
+    OTHER_FORMS,
+    PAGE,
+    XML_FORMS,
+    XQUERY,
+    Judge,
+    Spelled,
+    as_results,
+    chosen,
+    spelled_items,
+)
+from xqs.web_tags import StateHash, state_of, tag
+from xqs.web_view import as_json, as_page_json
+from xqs.xml_out import KEEP, XmlWriter
+
+
+@dataclass(frozen=True)
+class Wanted:
+    """How an answer is wanted: the header Accept, names as for `XmlWriter`, and whether each item
+    is wrapped in an element."""
+
+    accept: str | None = None
+    names: str = KEEP
+    is_wrapped: bool = False
+
+    def check(self) -> None:
+        """HttpRefusal 406 where no answer can have a form that is accepted."""
+        chosen(self.accept, XML_FORMS if self.is_wrapped else FORMS)
+
+    def choose(self, is_whole: bool) -> str:
+        """The form; `is_whole` says whether the value is a text of XML by itself.
+
+        HttpRefusal 406 where it can't have a form that is accepted.
+        """
+        if self.is_wrapped:
+            return chosen(self.accept, XML_FORMS)
+        return chosen(self.accept, FORMS if is_whole else OTHER_FORMS)
+
+    def tag(self, state: str, form: str) -> str:
+        """The entity tag of a state in a form."""
+        names = self.names if self.names != KEEP else ""
+        return tag(state, form, names, "wrapped" if self.is_wrapped else "")
+
+
+@dataclass
+class Body:
+    """An answer: its media type, its entity tag, its bytes, and headers of its own."""
+
+    form: str
+    tag: str
+    bytes: BinaryIO
+    headers: dict[str, str] = field(default_factory=dict)
+
+
+def answer_of(text: str, wanted: Wanted) -> Body:
+    """The answer that a reply's text makes. HttpRefusal 406."""
+    state = state_of(text)
+    form, spelled = _spelled(text, wanted)
+    return Body(form, wanted.tag(state, form), io.BytesIO(spelled.encode()))
+
+
+def _spelled(text: str, wanted: Wanted) -> tuple[str, str]:
+    """The form in which a reply's text is sent, and the text in it."""
+    form, items = wanted.choose(True), list[Spelled]()
+    if form in XML_FORMS and not wanted.is_wrapped:
+        items = list(spelled_items(text, wanted.names))
+        if len(items) == 1 and items[0].is_whole:
+            return form, items[0].xml
+        form = wanted.choose(False)
+    if form == XQUERY:
+        return form, text
+    if form in (JSON, PAGE):
+        return form, (as_page_json if form == PAGE else as_json)(text, wanted.names)
+    items = items or list(spelled_items(text, wanted.names))
+    return form, as_results(items) if wanted.is_wrapped else "\n".join(it.plain for it in items)
+
+
+def document_in_parts(client: Client, address: str, wanted: Wanted, file: BinaryIO) -> Body:
+    """The answer that a document makes which is too long for one reply, by way of a file.
+
+    HttpRefusal 406; Refused as prof:REPLY where nothing can be stored, or JSON is wanted.
+    """
+    form, judge, state = wanted.choose(True), Judge(), StateHash()
+    if form in (JSON, PAGE):
+        raise Refused("prof:REPLY")
+    out = io.TextIOWrapper(file, encoding="utf-8", newline="", write_through=True)
+
+    def constructor(piece: str) -> None:
+        state.write(piece)
+        if form == XQUERY:
+            out.write(piece)
+
+    takers = [judge.event, ConstructorWriter(constructor).event]
+    if form != XQUERY:
+        takers.append(XmlWriter(out.write, wanted.names).event)
+    try:
+        _give(document_events(client, address), takers)
+    except Refused as error:
+        # What can't be copied, since nothing can be stored, can't be had in parts.
+        raise Refused("prof:REPLY") if error.code == "xqs:READONLY" else error from error
+    finally:
+        out.detach()
+    if form in XML_FORMS and not judge.is_whole:
+        form = wanted.choose(False)
+    return Body(form, wanted.tag(state.state(), form), file)
+
+
+def _give(steps: Iterable[Event], takers: Sequence[Callable[[Event], object]]) -> None:
+    """Gives each event to all of them."""
+    for event in steps:
+        for take in takers:
+            take(event)

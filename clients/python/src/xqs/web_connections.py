@@ -1,0 +1,154 @@
+"""Connections of HTTP, with a time for each head of a request, and a bound for all of them.
+
+aiohttp waits for the rest of a head for ever. So its protocol stands behind one that is told, by
+the handlers, when a request has come whole, and that closes a connection of which none does.
+"""
+
+import asyncio
+from collections.abc import Callable, Iterator
+from contextlib import contextmanager
+from typing import TypeAlias, cast
+
+from aiohttp import web
+
+FULL = (
+    b"HTTP/1.1 503 Service Unavailable\r\nContent-Length: 42\r\nContent-Type: text/plain\r\n"
+    b"Retry-After: 1\r\nXqs-Code: xqs:FULL\r\nConnection: close\r\n\r\n"
+    b"xqs:FULL: there are too many connections.\n"
+)
+Inner: TypeAlias = asyncio.Protocol
+MOST_WAITS = 5
+"""So many times a head is awaited anew while the answer before it has not gone whole."""
+
+
+class Connections:
+    """All connections: at most `most` at once, each with `wait` seconds for a head.
+
+    Where there are too many, the one that has waited longest for a request is closed, and where all
+    have one, the newest is refused.
+    """
+
+    def __init__(self, inner: Callable[[], Inner], most: int, wait: float) -> None:
+        self._inner = inner
+        self._most, self.wait = most, wait
+        self._idle: dict[Connection, None] = {}
+        self._count = 0
+
+    def __call__(self) -> "Connection":
+        """The protocol of a new connection, for `loop.create_server`."""
+        return Connection(self, self._inner())
+
+    def begin(self, connection: "Connection") -> bool:
+        """A connection begins; whether there is room for it."""
+        if self._count >= self._most and self._idle:
+            next(iter(self._idle)).abort()
+        self._count += 1
+        self._idle[connection] = None
+        return self._count <= self._most
+
+    def set_busy(self, connection: "Connection", is_busy: bool) -> None:
+        """A request has come whole, or its answer has gone."""
+        self._idle.pop(connection, None)
+        if not is_busy:
+            self._idle[connection] = None
+
+    def end(self, connection: "Connection") -> None:
+        """A connection has ended."""
+        self._idle.pop(connection, None)
+        self._count -= 1
+
+
+class Connection(asyncio.Protocol):
+    """One connection, before the protocol that reads and answers its requests."""
+
+    def __init__(self, connections: Connections, inner: Inner) -> None:
+        self._connections, self._inner = connections, inner
+        self._transport: asyncio.Transport | None = None
+        self._timer: asyncio.TimerHandle | None = None
+        self._is_refused = self._has_ended = False
+        self._waits = 0
+
+    def connection_made(self, transport: asyncio.BaseTransport) -> None:
+        """As asyncio calls it, like those below."""
+        self._transport = cast(asyncio.Transport, transport)
+        if not self._connections.begin(self):
+            self._is_refused = True
+            self._transport.write(FULL)
+            self._transport.close()
+            return
+        self._inner.connection_made(transport)
+        self._await_head()
+
+    def data_received(self, data: bytes) -> None:
+        if not self._is_refused:
+            self._inner.data_received(data)
+
+    def eof_received(self) -> bool | None:
+        return None if self._is_refused else self._inner.eof_received()
+
+    def pause_writing(self) -> None:
+        if not self._is_refused:
+            self._inner.pause_writing()
+
+    def resume_writing(self) -> None:
+        if not self._is_refused:
+            self._inner.resume_writing()
+
+    def connection_lost(self, error: Exception | None) -> None:
+        self._has_ended = True
+        self._stop_waiting()
+        self._connections.end(self)
+        if not self._is_refused:
+            self._inner.connection_lost(error)
+
+    def abort(self) -> None:
+        """Ends the connection at once."""
+        if self._transport:
+            self._transport.abort()
+
+    @contextmanager
+    def request(self) -> Iterator[None]:
+        """While a request that has come whole is carried out, no head is awaited."""
+        self._stop_waiting()
+        self._connections.set_busy(self, True)
+        try:
+            yield
+        finally:
+            if not self._has_ended:
+                self._connections.set_busy(self, False)
+                self._await_head()
+
+    def _await_head(self) -> None:
+        self._stop_waiting()
+        self._waits = 0
+        self._wait()
+
+    def _wait(self) -> None:
+        loop = asyncio.get_running_loop()
+        self._timer = loop.call_later(self._connections.wait, self._head_is_late)
+
+    def _head_is_late(self) -> None:
+        """Ends the connection, unless the end of an answer is still on its way."""
+        is_sending = self._transport and self._transport.get_write_buffer_size() > 0
+        if is_sending and self._waits < MOST_WAITS:
+            self._waits += 1
+            self._wait()
+        else:
+            self.abort()
+
+    def _stop_waiting(self) -> None:
+        if self._timer:
+            self._timer.cancel()
+            self._timer = None
+
+
+@contextmanager
+def at_work(request: web.Request) -> Iterator[None]:
+    """While a request is carried out, its connection is not closed for want of another."""
+    transport = request.transport
+    connection = transport.get_protocol() if transport else None
+    if not isinstance(connection, Connection):
+        yield
+        return
+    with connection.request():
+        yield

@@ -1,0 +1,95 @@
+"""XML in lines for the eye, which joined are the exact XML."""
+
+from dataclasses import dataclass
+
+from xqs.values import Close, Event, Leaf, NodeKind, Open
+from xqs.xml_out import KEEP, XmlWriter
+
+LEFT_OUT = -1
+"""In the place of a depth: white space that the indented form does without."""
+Line = tuple[int, str]
+_SPACE = frozenset(" \t\n\r")
+
+
+@dataclass(slots=True)
+class _Open:
+    """An open node: at which of the breaks its content begins, and what has come of that."""
+
+    breaks: int
+    is_mixed: bool
+    has_child: bool = False
+    has_space: bool = False
+
+
+class LineWriter:
+    """Takes the events of one item.
+
+    A line begins before each child of an element that holds no text but white space, and before its
+    end. Nothing in an element with other texts, or with `xml:space="preserve"`, begins a line.
+    """
+
+    def __init__(self, names: str = KEEP) -> None:
+        """`names` as for `xml_out.XmlWriter`."""
+        self._pieces: list[str] = []
+        self._writer = XmlWriter(self._pieces.append, names)
+        self._breaks: list[tuple[int, int]] = [(0, 0)]
+        self._open: list[_Open] = []
+        self._is_document = False
+
+    def event(self, event: Event) -> None:
+        """Takes the next event."""
+        begin = len(self._pieces)
+        self._writer.event(event)
+        if begin < len(self._pieces) and self._pieces[begin] == ">":
+            # The end of the tag in which this node stands.
+            begin += 1
+        match event:
+            case Open(kind, _):
+                self._is_document |= kind is NodeKind.DOCUMENT
+                self._child(begin, False)
+                is_mixed = bool(self._open) and self._open[-1].is_mixed
+                self._open.append(_Open(len(self._breaks), is_mixed))
+            case Leaf(NodeKind.ATTRIBUTE, name, value):
+                self._attribute(name, value)
+            case Leaf(NodeKind.TEXT, _, value):
+                self._child(begin, True, _SPACE.issuperset(value))
+            case Leaf():
+                self._child(begin, False)
+            case Close():
+                self._close(begin)
+
+    def lines(self) -> list[Line]:
+        """The lines with their depths, once the item has ended."""
+        ends = [at for at, _ in self._breaks[1:]] + [len(self._pieces)]
+        return [
+            (depth, "".join(self._pieces[at:end]))
+            for (at, depth), end in zip(self._breaks, ends, strict=True)
+            if at < end
+        ]
+
+    def _attribute(self, name: str, value: str) -> None:
+        if self._open and value == "preserve" and name in ("xml:space", "xml__space"):
+            self._open[-1].is_mixed = True
+
+    def _child(self, begin: int, is_text: bool, is_space: bool = False) -> None:
+        """A child begins at a piece of the node that is open."""
+        if not self._open:
+            return
+        parent = self._open[-1]
+        if is_text and not is_space:
+            parent.is_mixed = True
+        parent.has_space |= is_space
+        parent.has_child |= not is_text
+        if not parent.is_mixed:
+            self._breaks.append((begin, LEFT_OUT if is_text else self._depth()))
+
+    def _depth(self) -> int:
+        """The depth of a child of the node that is open; a document takes no depth."""
+        return len(self._open) - self._is_document
+
+    def _close(self, begin: int) -> None:
+        node = self._open.pop()
+        if node.is_mixed or (node.has_space and not node.has_child):
+            del self._breaks[node.breaks :]
+        elif node.has_child:
+            self._breaks.append((begin, self._depth()))

@@ -1,0 +1,106 @@
+"""A sequence as a table: elements with the same parts, or texts with numbers, in turns."""
+
+import re
+from collections.abc import Sequence
+from typing import TypedDict
+
+from xqs.values import Item, Node, NodeKind
+from xqs.xml_out import atom_text, speller
+
+NUMBER = re.compile(r"\s*[+-]?(\d+(\.\d*)?|\.\d+)\s*")
+MOST_COLUMNS = 50
+Row = dict[str, str]
+"""The cells of a row by the names of their columns."""
+
+
+class Table(TypedDict):
+    """Columns with what each holds, `number` or `text`, and rows; a cell that a row lacks is
+    None."""
+
+    columns: list[str]
+    kinds: list[str]
+    rows: list[list[str | None]]
+
+
+def table_of(items: Sequence[Item], names: str) -> Table | None:
+    """The items as a table, or None where they make none.
+
+    Each element is a row. Its columns are its attributes, as `@NAME`, and the elements in it, of
+    which none comes twice and none holds others. Of elements with a text alone that is the column.
+    A text and a number in turns are rows of two columns.
+    """
+    rows = _pairs(items) or _elements(items, names)
+    if not rows:
+        return None
+    columns = list(dict.fromkeys(name for row in rows for name in row))
+    if not columns or len(columns) > MOST_COLUMNS:
+        return None
+    cells = [[row.get(name) for name in columns] for row in rows]
+    kinds = [_kind([row[at] for row in cells]) for at in range(len(columns))]
+    return Table(columns=columns, kinds=kinds, rows=cells)
+
+
+def _kind(cells: Sequence[str | None]) -> str:
+    given = [cell for cell in cells if cell is not None]
+    return "number" if given and all(map(NUMBER.fullmatch, given)) else "text"
+
+
+def _pairs(items: Sequence[Item]) -> list[Row]:
+    """Rows of a text and a number each, in either order all the same; none where it is not so."""
+    firsts, seconds = items[0::2], items[1::2]
+    if not seconds or len(firsts) != len(seconds):
+        return []
+    if not (_are_texts(firsts) and _are_numbers(seconds)):
+        return []
+    return [
+        {"1": atom_text(first), "2": atom_text(second)}
+        for first, second in zip(firsts, seconds, strict=True)
+    ]
+
+
+def _are_texts(items: Sequence[Item]) -> bool:
+    return all(isinstance(it, str) for it in items)
+
+
+def _are_numbers(items: Sequence[Item]) -> bool:
+    return not any(isinstance(it, str | Node | bool) for it in items)
+
+
+def _elements(items: Sequence[Item], names: str) -> list[Row]:
+    rows: list[Row] = []
+    for item in items:
+        row = _row(item, names)
+        if row is None or (rows and not row.keys() & rows[0].keys()):
+            return []
+        rows.append(row)
+    return rows
+
+
+def _row(item: Item, names: str) -> Row | None:
+    """The cells of an element; None for what is no row."""
+    if not isinstance(item, Node) or item.kind is not NodeKind.ELEMENT:
+        return None
+    spell = speller(names)
+    row = {f"@{spell(name)}": value for name, value in item.attributes.items()}
+    children = [it for it in item.children if not _is_space(it)]
+    if all(it.kind is NodeKind.TEXT for it in children):
+        if children or not row:
+            row[spell(item.name)] = item.text
+        return row
+    for child in children:
+        if child.kind is NodeKind.COMMENT:
+            continue
+        name = spell(child.name)
+        if child.kind is not NodeKind.ELEMENT or name in row or not _is_plain(child):
+            return None
+        row[name] = child.text
+    return row
+
+
+def _is_space(node: Node) -> bool:
+    return node.kind is NodeKind.TEXT and not node.value.strip(" \t\r\n")
+
+
+def _is_plain(node: Node) -> bool:
+    """Whether an element holds a text alone."""
+    return not node.attributes and all(it.kind is NodeKind.TEXT for it in node.children)

@@ -1,0 +1,123 @@
+"""The items of an answer as JSON: for programs, and with all that the page shows of them.
+
+The page reads no reply. It gets each item with its type, its text, its XML in lines and its tree,
+and puts those into the page as they are.
+"""
+
+import json
+from collections.abc import Callable, Iterator
+
+from xqs.values import Atom, Close, Event, Leaf, NodeKind, Open, events, values
+from xqs.web_forms import type_of
+from xqs.web_lines import LineWriter
+from xqs.web_table import table_of
+from xqs.xml_out import atom_text, speller
+
+json_text = json.JSONEncoder(ensure_ascii=False).encode
+"""A text as a string of JSON."""
+LONGEST_TABLE = 4_000_000
+"""Replies of at most so many characters are looked at for a table."""
+
+
+class _Item:
+    """Writes one item of an answer."""
+
+    def __init__(self, first: Event, names: str) -> None:
+        self._type = type_of(first)
+        self._lines = LineWriter(names)
+        self._name = speller(names)
+        self._texts: list[str] = []
+        self._tree: list[str] = []
+        self._heads: list[_Head] = []
+
+    def event(self, event: Event) -> bool:
+        """Takes the next event; whether the item ends with it."""
+        self._lines.event(event)
+        match event:
+            case Open(kind, name):
+                self._begin()
+                self._heads.append(_Head())
+                self._tree.append(f"[{json_text(kind)},{json_text(self._name(name))},[")
+            case Leaf(NodeKind.ATTRIBUTE, name, value) if self._heads:
+                comma = "," if self._heads[-1].attributes else ""
+                self._heads[-1].attributes += 1
+                self._tree.append(f"{comma}{json_text(self._name(name))},{json_text(value)}")
+            case Leaf(kind, name, value):
+                self._begin()
+                self._leaf(kind, self._name(name), value)
+            case Close():
+                self._tree.append("]]" if self._heads.pop().children else "],[]]")
+            case Atom(value):
+                self._texts.append(atom_text(value))
+        return not self._heads
+
+    def _begin(self) -> None:
+        """A child begins in the node that is open."""
+        if self._heads:
+            self._tree.append("," if self._heads[-1].children else "],[")
+            self._heads[-1].children += 1
+
+    def _leaf(self, kind: NodeKind, name: str, value: str) -> None:
+        if kind is NodeKind.TEXT or not self._heads:
+            self._texts.append(value)
+        self._tree.append(f"[{json_text(kind)},{json_text(name)},{json_text(value)}]")
+
+    def write(self, write: Callable[[str], object], is_page: bool) -> None:
+        """Writes the item, once it has ended."""
+        lines = self._lines.lines()
+        text = json_text("".join(self._texts))
+        write(f'{{"type":"{self._type}","text":{text},"xml":')
+        if not is_page:
+            write(json_text("".join(line for _, line in lines)) + "}")
+            return
+        write("[" + ",".join(f"{depth},{json_text(line)}" for depth, line in lines))
+        write(f'],"tree":{"".join(self._tree) or "null"}}}')
+
+
+class _Head:
+    """How much of an open node has come."""
+
+    __slots__ = ("attributes", "children")
+
+    def __init__(self) -> None:
+        self.attributes = self.children = 0
+
+
+def _items(text: str, names: str) -> Iterator[_Item]:
+    item: _Item | None = None
+    for event in events(text):
+        item = item or _Item(event, names)
+        if item.event(event):
+            yield item
+            item = None
+
+
+def as_json(text: str, names: str) -> str:
+    """Printed items as an array of JSON: of each item its `type`, its `text` and its `xml`.
+
+    Misspelt where the text is no printed value.
+    """
+    out: list[str] = []
+    for item in _items(text, names):
+        out.append("," if out else "[")
+        item.write(out.append, False)
+    return "".join(out) + "]" if out else "[]"
+
+
+def as_page_json(text: str, names: str) -> str:
+    """Printed items as an object of JSON for the page.
+
+    `constructors` is the reply as it came. Of each of the `items` its `xml` is a list of depths and
+    texts: the texts, joined, are the exact XML; each of a depth from 0 is a line of the indented
+    one, from which those of depth -1 are left out. Its `tree` is `[kind, name, value]`, or `[kind,
+    name, [name, value, ..], [tree, ..]]` for a document or an element, and null for an atomic
+    value. `table` is null, or the items in rows.
+    """
+    out = [f'{{"constructors":{json_text(text)},"items":[']
+    for number, item in enumerate(_items(text, names)):
+        if number:
+            out.append(",")
+        item.write(out.append, True)
+    table = table_of(values(text), names) if len(text) <= LONGEST_TABLE else None
+    out.append(f'],"table":{json.dumps(table, ensure_ascii=False)}}}')
+    return "".join(out)
