@@ -30,7 +30,7 @@ class TagsTest(unittest.TestCase):
                 for form in ("application/xml", "text/plain") for names in ("", "flat")}
         self.assertEqual(len(tags), 8)
         for it in tags:
-            self.assertRegex(it, r'^"[\w-]{20}-[\w-]+"$')
+            self.assertRegex(it, r'^"[\w-]{20}-[\w.-]+"$')
 
     def test_headers_are_read(self) -> None:
         for lines, tags in ((["*"], {"*"}), (['"a"'], {'"a"'}), (['"a", W/"b"'], {'"a"', 'W/"b"'}),

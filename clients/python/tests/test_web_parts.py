@@ -7,6 +7,7 @@ import unittest
 
 from tests.support import FolderTest
 from xqs import Closed, Refused, Wanting
+from xqs.prefixed import FlatQuery, flattened
 from xqs.protocol import FrameFault
 from xqs.web_forms import (
     FORMS,
@@ -146,10 +147,13 @@ class StatusTest(unittest.TestCase):
 
     def test_the_place_of_a_fault_is_looked_for_in_short_queries(self) -> None:
         error = Refused("XPST0017")
-        self.assertEqual(placed(error, "1,\n cuont(1)").headers, {"Xqs-Place": "2:2"})
-        self.assertEqual(placed(error, "count(1)").headers, {})
+        for query, headers in (("1,\n cuont(1)", {"Xqs-Place": "2:2"}), ("count(1)", {})):
+            self.assertEqual(placed(error, query, FlatQuery(query)).headers, headers)
+        query = "a:b, c:d, cuont(1)"
+        self.assertEqual(placed(error, query, flattened(query)).headers, {"Xqs-Place": "1:11"})
         begin = time.monotonic()
-        self.assertEqual(placed(error, "count(1)," * 100_000 + "cuont(1)").headers, {})
+        long = "count(1)," * 100_000 + "cuont(1)"
+        self.assertEqual(placed(error, long, FlatQuery(long)).headers, {})
         self.assertLess(time.monotonic() - begin, 1)
 
     def test_a_refusal_is_its_code_and_a_sentence(self) -> None:

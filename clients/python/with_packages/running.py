@@ -1,10 +1,14 @@
 """`xqs web` for tests: one that runs, and requests to it."""
 
+import base64
 import http.client
+import io
 import subprocess
 import sys
 import tempfile
 import time
+import urllib.request
+import zipfile
 from collections.abc import Iterable, Mapping
 from pathlib import Path
 from typing import NamedTuple
@@ -76,11 +80,27 @@ class RunningWeb:
             **headers: str) -> Answer:
         """Stores a document, with the token."""
         return self.ask("PUT", f"/rest/{address}", body, Content_Type=kind,
-                        Authorization=f"Bearer {TOKEN}", **headers)
+                        Authorization=self.account, **headers)
 
-    def delete(self, address: str) -> Answer:
+    def delete(self, address: str, **headers: str) -> Answer:
         """Drops a document, with the token."""
-        return self.ask("DELETE", f"/rest/{address}", Authorization=f"Bearer {TOKEN}")
+        return self.ask("DELETE", f"/rest/{address}", Authorization=self.account, **headers)
+
+    @property
+    def account(self) -> str:
+        """The header by which the token is sent."""
+        return f"Bearer {TOKEN}"
+
+    def basic(self, user: str, password: str = TOKEN) -> str:
+        """The header by which a user and a password are sent."""
+        return f"Basic {base64.b64encode(f'{user}:{password}'.encode()).decode()}"
+
+    def archive(self, path: str) -> dict[str, str]:
+        """The files of an archive that is asked for, by their names."""
+        with urllib.request.urlopen(f"{self.url}{path[1:]}", timeout=PATIENCE) as response:
+            archive = zipfile.ZipFile(io.BytesIO(response.read()))
+        return {name: archive.read(name).decode() for name in archive.namelist()
+                if not name.endswith("/")}
 
     def server_id(self) -> int:
         """The process id of the server below."""

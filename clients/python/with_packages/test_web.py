@@ -1,6 +1,5 @@
 """`xqs web` over the server of XQS_SERVER: paths, forms, statuses, who may ask, limits, ends."""
 
-import json
 import os
 import signal
 import socket
@@ -10,63 +9,21 @@ import threading
 import time
 import unittest
 import urllib.parse
-from contextlib import suppress
 
-import tests  # noqa: F401 (puts the package on the path)
 from tests.serving import PATIENCE, SOURCES, RunningMux
 from tests.support import FolderTest, server_command
-
-try:
-    import aiohttp  # noqa: F401 (the package under test wants it)
-except ImportError as error:
-    raise unittest.SkipTest("aiohttp is not installed") from error
-
-from running import TOKEN, Answer, RunningWeb
-
-ENDLESS = "every $x in 1 to 1000000, $y in 1 to 1000000 satisfies $x > 0"
-BOOK = '<book id="1"><t>A &amp; B</t><!-- c --><?p q?></book>'
-BOMB = ('<!DOCTYPE a [<!ENTITY b "bbbbbbbbbb"><!ENTITY c "&b;&b;&b;&b;&b;&b;&b;&b;">'
-        "]><a>&c;&c;&c;</a>")
-XQUERY = "application/xquery"
-
-
-def asked(query: str, **parameters: str) -> str:
-    """The path that asks a query."""
-    return "/rest?" + urllib.parse.urlencode({"query": query, **parameters})
-
-
-def read_all(connection: socket.socket) -> bytes:
-    """What comes until the stream ends, in order or not."""
-    data = bytearray()
-    with suppress(ConnectionResetError):
-        while piece := connection.recv(1 << 16):
-            data += piece
-    return bytes(data)
-
-
-class WebTest(FolderTest):
-    """One server for all tests of a class."""
-
-    web: RunningWeb
-    words: tuple[str, ...] = ()
-
-    @classmethod
-    def setUpClass(cls) -> None:
-        cls.web = cls.enterClassContext(RunningWeb(*cls.words))
-
-    def tearDown(self) -> None:
-        if self.web.process.poll() is None:
-            for address in json.loads(self.web.ask("GET", "/rest", Accept="application/json").body):
-                self.web.delete(address)
-
-    def check(self, answer: Answer, status: int, body: str | None = None) -> None:
-        """Checks a status, and a body where one is given."""
-        self.assertEqual((answer.status, body and answer.body), (status, body), answer)
-
-    def check_refused(self, answer: Answer, status: int, code: str) -> None:
-        """Checks the status and the code of a refusal, which stands before its sentence."""
-        self.assertEqual((answer.status, answer.headers.get("Xqs-Code")), (status, code), answer)
-        self.assertTrue(answer.body.startswith(f"{code}: "), answer.body)
+from webs import (
+    BOMB,
+    BOOK,
+    ENDLESS,
+    TOKEN,
+    XQUERY,
+    Answer,
+    RunningWeb,
+    WebTest,
+    asked,
+    read_all,
+)
 
 
 class Documents(WebTest):
@@ -324,6 +281,7 @@ class Limits(WebTest):
         path = asked("string-join(for $x in 1 to 900000 return 'abcdefghij')")
         with socket.create_connection((host, int(port)), timeout=PATIENCE) as connection:
             connection.sendall(f"GET {path} HTTP/1.1\r\nHost: {self.web.host}\r\n\r\n".encode())
+            connection.recv(1, socket.MSG_PEEK)
             time.sleep(3)
             self.assertLess(len(read_all(connection)), 9_000_000)
         got = self.web.ask("GET", path)
@@ -436,6 +394,8 @@ class Ends(WebTest):
             thread.join(PATIENCE)
             self.check(answers[0], 200, "500000")
 
+
+del FolderTest, WebTest
 
 if __name__ == "__main__":
     unittest.main()

@@ -35,12 +35,12 @@ _WILDCARDS = {
 
 
 class PrefixFault(XqError, ValueError):
-    """A name of a query that no flat name stands for; `at` is its place in the text, from 0."""
+    """A name of a query that no flat name stands for; `at` is its place in its `text`, from 0."""
 
     def __init__(self, text: str, at: int, why: str) -> None:
         line, column = line_and_column(text, at)
         super().__init__(f"{line}:{column}: {why}")
-        self.at, self.why = at, why
+        self.text, self.at, self.why = text, at, why
 
 
 def flat_query(text: str) -> str:

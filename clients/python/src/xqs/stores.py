@@ -146,6 +146,11 @@ def _send_and_wait(
     return Stored(answer == "replaced", document.nodes, temporary.count)
 
 
+def store_at(client: Client, address: str, document: Incoming, temporary: Temporary) -> Stored:
+    """Stores a document at any address, as one that stands for a while."""
+    return _send_and_wait(client, address, document, temporary)
+
+
 def store_xml(
     client: Client,
     address: str,

@@ -9,6 +9,7 @@ from xqs.client import Client
 from xqs.constructors import ConstructorWriter
 from xqs.errors import Refused
 from xqs.fetch import document_events
+from xqs.prefixed import prefixed_event, prefixed_text
 from xqs.values import Event
 from xqs.web_forms import (
     FORMS,
@@ -82,7 +83,7 @@ def _spelled(text: str, wanted: Wanted) -> tuple[str, str]:
             return form, items[0].xml
         form = wanted.choose(False)
     if form == XQUERY:
-        return form, text
+        return form, text if wanted.names == KEEP else prefixed_text(text)
     if form in (JSON, PAGE):
         return form, (as_page_json if form == PAGE else as_json)(text, wanted.names)
     items = items or list(spelled_items(text, wanted.names))
@@ -98,17 +99,9 @@ def document_in_parts(client: Client, address: str, wanted: Wanted, file: Binary
     if form in (JSON, PAGE):
         raise Refused("prof:REPLY")
     out = io.TextIOWrapper(file, encoding="utf-8", newline="", write_through=True)
-
-    def constructor(piece: str) -> None:
-        state.write(piece)
-        if form == XQUERY:
-            out.write(piece)
-
-    takers = [judge.event, ConstructorWriter(constructor).event]
-    if form != XQUERY:
-        takers.append(XmlWriter(out.write, wanted.names).event)
+    hashed, writer = ConstructorWriter(state.write), _writer(form, wanted.names, out.write)
     try:
-        _give(document_events(client, address), takers)
+        _give(document_events(client, address), (judge.event, hashed.event, writer))
     except Refused as error:
         # What can't be copied, since nothing can be stored, can't be had in parts.
         raise Refused("prof:REPLY") if error.code == "xqs:READONLY" else error from error
@@ -117,6 +110,16 @@ def document_in_parts(client: Client, address: str, wanted: Wanted, file: Binary
     if form in XML_FORMS and not judge.is_whole:
         form = wanted.choose(False)
     return Body(form, wanted.tag(state.state(), form), file)
+
+
+def _writer(form: str, names: str, write: Callable[[str], object]) -> Callable[[Event], object]:
+    """What takes the events of a document, and writes it in a form."""
+    if form != XQUERY:
+        return XmlWriter(write, names).event
+    writer = ConstructorWriter(write)
+    if names == KEEP:
+        return writer.event
+    return lambda event: writer.event(prefixed_event(event))
 
 
 def _give(steps: Iterable[Event], takers: Sequence[Callable[[Event], object]]) -> None:

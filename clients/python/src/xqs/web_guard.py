@@ -5,6 +5,7 @@ name of its own that it has pointed here. So the name that a request was sent to
 and a request that a browser says another page has made is refused.
 """
 
+import base64
 import hmac
 import os
 import secrets
@@ -61,14 +62,24 @@ def check_token(method: str, given: str | None, token: str | None) -> None:
         raise HttpRefusal(
             403, "xqs:READONLY", "nothing can be stored or dropped here without --token-file"
         )
-    scheme, _, word = (given or "").partition(" ")
-    if scheme.lower() != "bearer" or not hmac.compare_digest(
-        word.strip().encode(errors="replace"), token.encode()
-    ):
+    if not hmac.compare_digest(_secret_in(given or ""), token.encode()):
         raise HttpRefusal(
-            401, "xqs:TOKEN", "a store or a drop wants Authorization: Bearer TOKEN",
-            {"WWW-Authenticate": 'Bearer realm="xqs"'},
+            401, "xqs:TOKEN", "a store or a drop wants Authorization: Bearer TOKEN, or Basic with "
+            "the token for a password", {"WWW-Authenticate": 'Bearer realm="xqs"'},
         )
+
+
+def _secret_in(given: str) -> bytes:
+    """The token that a header Authorization has, or the password; empty where it has none."""
+    scheme, _, word = given.partition(" ")
+    if scheme.lower() == "bearer":
+        return word.strip().encode(errors="replace")
+    if scheme.lower() != "basic":
+        return b""
+    try:
+        return base64.b64decode(word.strip(), validate=True).partition(b":")[2]
+    except ValueError:
+        return b""
 
 
 def read_token(path: Path) -> str:

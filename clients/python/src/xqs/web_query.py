@@ -5,6 +5,7 @@ import xml.etree.ElementTree as ElementTree
 from collections.abc import Iterable, Iterator
 from dataclasses import dataclass, field
 
+from xqs.prefixed import FlatQuery, flattened
 from xqs.queries import q
 from xqs.values import quoted
 from xqs.web_charset import decoded
@@ -91,12 +92,18 @@ class Asked:
         """Whether a whole document is asked for, and not some query about it."""
         return self.text is None and not self.is_wrapped
 
+    def flattened(self) -> FlatQuery:
+        """The query's text, in which names with a prefix are flat where that is the choice."""
+        text = self.text or ""
+        return flattened(text) if self.names == FLAT else FlatQuery(text)
+
     def query(self, address: str = "") -> str:
         """The query to be asked; of the document at an address, where one is given.
 
         Values are quoted: none is read as a query. ValueError for characters that XML hasn't.
+        PrefixFault for a name that flat names have no room for.
         """
-        text = self.text
+        text = None if self.text is None else self.flattened().text
         if address:
             document = f"doc({quoted(address)})"
             text = document if text is None else f"{document}/({text}\n)"

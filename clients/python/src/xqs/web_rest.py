@@ -15,8 +15,10 @@ from aiohttp import web
 from xqs import aio, client, protocol
 from xqs.endpoints import Endpoint
 from xqs.errors import Refused
-from xqs.stores import chunks_of, store_constructors, store_xml
-from xqs.temporary import is_temporary
+from xqs.prefixed import flat_query
+from xqs.requests import store_of
+from xqs.stores import chunks_of, store_again, store_xml_at
+from xqs.temporary import check_lasting
 from xqs.web_answers import Body, Wanted, answer_of, document_in_parts
 from xqs.web_bodies import charset_of, media_type, receive, received_query
 from xqs.web_charset import decoded
@@ -181,6 +183,7 @@ class Rest:
 
     async def options(self, request: web.Request) -> web.Response:
         """The methods that there are at a path."""
+        parameters_of(request).only(())
         is_document = "address" in request.match_info
         allow = DOCUMENT_METHODS if is_document else LIST_METHODS
         return web.Response(status=204, headers={"Allow": allow})
@@ -237,7 +240,7 @@ class Rest:
         except Refused as error:
             if error.code == "prof:REPLY" and address and asked.is_whole():
                 return await self._answer_in_parts(request, wanted, address)
-            raise placed(error, asked.text or "") from error
+            raise placed(error, asked.text or "", asked.flattened()) from error
         body = await in_thread_if(len(text) > SHORT, answer_of, text, wanted)
         timing = {"Server-Timing": f"server;dur={took * 1000:.3f}"}
         return await self._send(request, body, timing)
@@ -270,9 +273,7 @@ class Rest:
     async def put(self, request: web.Request) -> web.Response:
         """Stores a document of XML or of constructors; 201 where the address had none."""
         address, kind = address_of(request), media_type(request)
-        if is_temporary(address):
-            raise HttpRefusal(403, "xqs:TEMPORARY", "addresses below xqs.temporary/ are the "
-                              "client's own, and what is there is dropped")
+        check_lasting(address)
         charset, conditions = charset_of(request), conditions_of(request.headers)
         words = parameters_of(request).only(("names",))
         given = words.get("names", self._settings.names.value)
@@ -329,17 +330,19 @@ class _Document:
 
 class _StoreXml(_Document):
     def store(self, connection: client.Client, address: str) -> bool:
-        choices = XmlChoices(names=self.names)
-        stored = store_xml(connection, address, chunks_of(self.body), self.name, choices)
-        return stored.replaced
+        choices, chunks = XmlChoices(names=self.names), chunks_of(self.body)
+        return store_xml_at(
+            connection, address, chunks, self.name, choices, self.charset).replaced
 
 
 class _StoreXquery(_Document):
     def store(self, connection: client.Client, address: str) -> bool:
         text = decoded(self.body.read(), self.charset)
-        if self.body.tell() + protocol.MAX_ADDRESS < protocol.MAX_REQUEST:
-            return connection.store(address, text)
-        return store_constructors(connection, address, text).replaced
+        if self.names is Names.FLAT:
+            text = flat_query(text)
+        if len(text.encode()) + protocol.MAX_ADDRESS < protocol.MAX_REQUEST:
+            return connection.request_later(store_of(address, text)).result() == "replaced"
+        return store_again(connection, address, text).replaced
 
 
 def _refused(refusal: HttpRefusal) -> web.Response:

@@ -1,11 +1,13 @@
 """What HTTP says of a request that was not done."""
 
 from collections.abc import Mapping
-from dataclasses import dataclass, field
+from dataclasses import dataclass, field, replace
 
 from xqs import places
 from xqs.errors import Closed, Refused, ReplyError, XqError
+from xqs.prefixed import FlatQuery, PrefixFault
 from xqs.protocol import FrameFault
+from xqs.temporary import KeptAddress
 
 STATUSES = {
     "FODC0002": 404,
@@ -56,6 +58,11 @@ def refusal_of(error: Exception, changes: bool) -> HttpRefusal | None:
             return _closed(error, changes)
         case FrameFault():
             return HttpRefusal(413, "prof:LONG", str(error))
+        case KeptAddress():
+            return HttpRefusal(403, "xqs:TEMPORARY", str(error))
+        case PrefixFault():
+            refusal = HttpRefusal(BAD, "xqs:NAMES", "a name has no flat name")
+            return _at(refusal, error.text, error.at, error.why)
         case OSError():
             return HttpRefusal(WANTING, "xqs:SERVER", f"no server answers ({error})", RETRY)
         case ValueError():
@@ -63,15 +70,21 @@ def refusal_of(error: Exception, changes: bool) -> HttpRefusal | None:
     return None
 
 
-def placed(error: Refused, query: str) -> HttpRefusal:
-    """The refusal of a query, with the place of its fault where the text tells one."""
+def placed(error: Refused, query: str, flat: FlatQuery) -> HttpRefusal:
+    """The refusal of a query, which was asked with flat names, with the place of its fault where
+    the text tells one."""
     refusal = _told(error, STATUSES.get(error.code, BAD))
-    place = places.find(query, error.code) if len(query) <= SEARCHED else None
+    place = places.find(flat.text, error.code) if len(query) <= SEARCHED else None
     if place is None:
         return refusal
-    line, column = places.line_and_column(query, place.at)
-    sentence = f"{refusal.sentence}\nline {line}, column {column}: {place.why}"
-    return HttpRefusal(refusal.status, error.code, sentence, {PLACE: f"{line}:{column}"})
+    return _at(refusal, query, flat.place(place.at), place.why)
+
+
+def _at(refusal: HttpRefusal, query: str, at: int, why: str) -> HttpRefusal:
+    """The refusal with a place of the query."""
+    line, column = places.line_and_column(query, at)
+    sentence = f"{refusal.sentence}\nline {line}, column {column}: {why}"
+    return replace(refusal, sentence=sentence, headers={PLACE: f"{line}:{column}"})
 
 
 def _told(error: ReplyError, status: int, headers: Mapping[str, str] = {}) -> HttpRefusal:

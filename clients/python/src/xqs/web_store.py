@@ -12,6 +12,7 @@ from xqs.client import Client
 from xqs.constructors import write_constructors
 from xqs.errors import Refused, XqError
 from xqs.fetch import document_events
+from xqs.requests import store_of
 from xqs.temporary import Temporary
 from xqs.values import quoted
 from xqs.web_tags import Conditions, StateHash, failed
@@ -94,7 +95,7 @@ def _unchanged(client: Client, address: str, conditions: Conditions) -> Iterator
 def _copied_state(client: Client, address: str, copy: str) -> str | None:
     """The state of a document, of which a copy is made; None where there is no document."""
     try:
-        client.store(copy, f"doc({quoted(address)})")
+        client.request_later(store_of(copy, f"doc({quoted(address)})")).result()
     except Refused as error:
         if error.code != ABSENT:
             raise

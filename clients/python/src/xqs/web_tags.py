@@ -48,7 +48,7 @@ def tag(state: str, *form: str) -> str:
 
     It is strong: the state and the form decide each byte.
     """
-    return f'"{state}-{"-".join(word.rpartition("/")[2] for word in form if word)}"'
+    return f'"{state}-{"-".join(word.replace("/", ".") for word in form if word)}"'
 
 
 def tag_of_file(file: BinaryIO) -> str:
