@@ -47,7 +47,12 @@ class RunningWeb:
             self.process = subprocess.Popen(
                 [sys.executable, "-m", "xqs", "web", "--listen", "0", *words, *server],
                 cwd=SOURCES, stdin=subprocess.DEVNULL, stdout=errors, stderr=errors)
-        self.url = self._wait_for("listens at ").strip()
+        try:
+            self.url = self._wait_for("listens at ").strip()
+        except BaseException:
+            self.process.kill()
+            self.process.wait()
+            raise
         self.host = self.url.removeprefix("http://").rstrip("/")
 
     def said(self) -> str:

@@ -133,6 +133,9 @@ def parser() -> argparse.ArgumentParser:
            help="how long the head of a request may take (%(default)g)")
     option("--connections", type=positive, metavar="N", default=DEFAULTS.connections,
            help="connections at once (%(default)s); the one that has waited longest is closed")
+    option("--answers", type=positive, metavar="BYTES", default=DEFAULTS.held,
+           help="all answers that wait for their clients, on the disk; above it the client with "
+           "most to read is cut off (%(default)s)")
     option("--requests", type=positive, metavar="N", default=DEFAULTS.requests,
            help="requests that are carried out at once (%(default)s)")
     add_limits(result)
@@ -152,7 +155,7 @@ def main(words: Sequence[str] | None = None) -> int:
     options = replace(
         DEFAULTS, hosts=NAMES | {name.lower() for name in given.host}, token=token,
         names=Names(given.names), body=given.body, wait=given.wait, head=given.head,
-        requests=given.requests, connections=given.connections,
+        requests=given.requests, connections=given.connections, held=given.answers,
     )
     if isinstance(place, Command) and not is_on_file(place.words):
         say("the documents live in memory: they are lost whenever the server ends")

@@ -1,9 +1,10 @@
 """Answers on their way from the server's text to the form that a request likes best."""
 
 import io
+import tempfile
 from collections.abc import Callable, Iterable, Sequence
-from dataclasses import dataclass, field
-from typing import BinaryIO
+from dataclasses import dataclass
+from typing import BinaryIO, cast
 
 from xqs.client import Client
 from xqs.constructors import ConstructorWriter
@@ -27,6 +28,9 @@ from xqs.web_forms import (
 from xqs.web_tags import StateHash, state_of, tag
 from xqs.web_view import as_json, as_page_json
 from xqs.xml_out import KEEP, XmlWriter
+
+IN_MEMORY = 1 << 20
+"""An answer of so many bytes is kept in memory while it is sent, a longer one on the disk."""
 
 
 @dataclass(frozen=True)
@@ -59,19 +63,31 @@ class Wanted:
 
 @dataclass
 class Body:
-    """An answer: its media type, its entity tag, its bytes, and headers of its own."""
+    """An answer: its media type, its entity tag, and its bytes, which lie on the disk where they
+    are many, since they may have to wait for a slow client."""
 
     form: str
     tag: str
     bytes: BinaryIO
-    headers: dict[str, str] = field(default_factory=dict)
+
+
+def new_file() -> BinaryIO:
+    """A file in memory that goes to the disk when it grows."""
+    return cast(BinaryIO, tempfile.SpooledTemporaryFile(max_size=IN_MEMORY))
+
+
+def body_of(form: str, entity_tag: str, text: str) -> Body:
+    """An answer that is a text."""
+    file = new_file()
+    file.write(text.encode())
+    return Body(form, entity_tag, file)
 
 
 def answer_of(text: str, wanted: Wanted) -> Body:
     """The answer that a reply's text makes. HttpRefusal 406."""
     state = state_of(text)
     form, spelled = _spelled(text, wanted)
-    return Body(form, wanted.tag(state, form), io.BytesIO(spelled.encode()))
+    return body_of(form, wanted.tag(state, form), spelled)
 
 
 def _spelled(text: str, wanted: Wanted) -> tuple[str, str]:
@@ -90,14 +106,15 @@ def _spelled(text: str, wanted: Wanted) -> tuple[str, str]:
     return form, as_results(items) if wanted.is_wrapped else "\n".join(it.plain for it in items)
 
 
-def document_in_parts(client: Client, address: str, wanted: Wanted, file: BinaryIO) -> Body:
-    """The answer that a document makes which is too long for one reply, by way of a file.
+def document_in_parts(client: Client, address: str, wanted: Wanted) -> Body:
+    """The answer that a document makes which is too long for one reply.
 
     HttpRefusal 406; Refused as prof:REPLY where nothing can be stored, or JSON is wanted.
     """
     form, judge, state = wanted.choose(True), Judge(), StateHash()
     if form in (JSON, PAGE):
         raise Refused("prof:REPLY")
+    file = new_file()
     out = io.TextIOWrapper(file, encoding="utf-8", newline="", write_through=True)
     hashed, writer = ConstructorWriter(state.write), _writer(form, wanted.names, out.write)
     try:

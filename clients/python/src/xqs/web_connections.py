@@ -32,7 +32,7 @@ class Connections:
         self._inner = inner
         self._most, self.wait = most, wait
         self._idle: dict[Connection, None] = {}
-        self._count = 0
+        self._all: set[Connection] = set()
 
     def __call__(self) -> "Connection":
         """The protocol of a new connection, for `loop.create_server`."""
@@ -40,11 +40,13 @@ class Connections:
 
     def begin(self, connection: "Connection") -> bool:
         """A connection begins; whether there is room for it."""
-        if self._count >= self._most and self._idle:
-            next(iter(self._idle)).abort()
-        self._count += 1
+        if len(self._all) >= self._most and self._idle:
+            longest = next(iter(self._idle))
+            self.end(longest)
+            longest.abort()
+        self._all.add(connection)
         self._idle[connection] = None
-        return self._count <= self._most
+        return len(self._all) <= self._most
 
     def set_busy(self, connection: "Connection", is_busy: bool) -> None:
         """A request has come whole, or its answer has gone."""
@@ -55,7 +57,7 @@ class Connections:
     def end(self, connection: "Connection") -> None:
         """A connection has ended."""
         self._idle.pop(connection, None)
-        self._count -= 1
+        self._all.discard(connection)
 
 
 class Connection(asyncio.Protocol):

@@ -21,6 +21,8 @@ none."""
 OTHER_FORMS = FORMS[len(XML_FORMS):]
 """The forms of any other value."""
 LIST_FORMS = (*XML_FORMS, TEXT, XQUERY, JSON)
+IN_UTF8 = (*XML_FORMS, TEXT, XQUERY)
+"""The forms whose character set is told."""
 QUALITY = re.compile(r"0(\.\d{0,9})?|1(\.0{0,9})?")
 _VERBATIM = (NodeKind.COMMENT, NodeKind.INSTRUCTION)
 """Of these XML has the text as it stands, and so no carriage return."""

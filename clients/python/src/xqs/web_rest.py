@@ -1,7 +1,6 @@
 """Documents by HTTP, under BaseX's paths: /rest, /rest/ADDRESS, and a page at /."""
 
 import asyncio
-import io
 import tempfile
 import time
 import urllib.parse
@@ -19,7 +18,7 @@ from xqs.prefixed import flat_query
 from xqs.requests import store_of
 from xqs.stores import chunks_of, store_again, store_xml_at
 from xqs.temporary import check_lasting
-from xqs.web_answers import Body, Wanted, answer_of, document_in_parts
+from xqs.web_answers import Body, Wanted, answer_of, body_of, document_in_parts, new_file
 from xqs.web_bodies import charset_of, media_type, receive, received_query
 from xqs.web_charset import decoded
 from xqs.web_connections import at_work
@@ -30,7 +29,7 @@ from xqs.web_lists import LIST_PARAMETERS, listing_of
 from xqs.web_locks import Locks
 from xqs.web_page import Page
 from xqs.web_query import Asked, Parameters, choice, take_body
-from xqs.web_send import send
+from xqs.web_send import Sender
 from xqs.web_status import CODE, HttpRefusal, placed, refusal_of
 from xqs.web_store import drop_if, store_if
 from xqs.web_tags import Conditions, NotModified, conditions_of, etag, state_of, tag, tag_of_file
@@ -76,6 +75,7 @@ class WebSettings:
     head: float = 20.0
     requests: int = 64
     connections: int = 1000
+    held: int = 1 << 30
 
 
 async def in_thread_if(long: bool, function: Callable[..., T], *arguments: object) -> T:
@@ -93,6 +93,7 @@ class Rest:
         self._settings = settings
         self._room = asyncio.Semaphore(settings.requests)
         self._locks = Locks()
+        self._sender = Sender(settings.wait, settings.held)
         self._page = Page(settings.names, settings.token is not None)
 
     def application(self) -> web.Application:
@@ -142,12 +143,11 @@ class Rest:
     @asynccontextmanager
     async def _client(self) -> AsyncIterator[aio.AsyncClient]:
         """A connection of the request's own, so that each has its turn among the others."""
-        async with self._room:
-            connection = await aio.connect(self._place)
-            try:
-                yield connection
-            finally:
-                await connection.close()
+        connection = await aio.connect(self._place)
+        try:
+            yield connection
+        finally:
+            await connection.close()
 
     async def get_page(self, request: web.Request) -> web.Response:
         """The page, or a file of it."""
@@ -165,16 +165,16 @@ class Rest:
         """The documents below a prefix, as files of a ZIP archive."""
         words = parameters_of(request).only(("prefix", "names"))
         names = choice("names", words.get("names", self._keep_or_flat), (KEEP, FLAT))
-        with tempfile.TemporaryFile() as file:
-            out = cast(BinaryIO, file)
-            async with self._room:
-                await asyncio.to_thread(self._archive, words.get("prefix", ""), names, out)
-            headers = {"Content-Disposition": 'attachment; filename="documents.zip"'}
-            return await self._send(request, Body(ZIP, tag_of_file(out), out), headers)
+        async with self._room:
+            file = await asyncio.to_thread(self._archive, words.get("prefix", ""), names)
+        headers = {"Content-Disposition": 'attachment; filename="documents.zip"'}
+        return await self._send(request, Body(ZIP, tag_of_file(file), file), headers)
 
-    def _archive(self, prefix: str, names: str, file: BinaryIO) -> None:
+    def _archive(self, prefix: str, names: str) -> BinaryIO:
+        file = new_file()
         with client.connect(self._place) as connection:
             write_archive(connection, prefix, names, file)
+        return file
 
     @property
     def _keep_or_flat(self) -> str:
@@ -195,12 +195,11 @@ class Rest:
             return await self._answer(request, self._asked(given), "")
         listing = listing_of(given)
         form = chosen(request.headers.get("Accept"), LIST_FORMS)
-        async with self._client() as connection:
+        async with self._room, self._client() as connection:
             addresses = await connection.list()
         addresses, headers = listing.page(addresses)
         text = spelled_list(addresses, form)
-        body = Body(form, tag(state_of(text), form), io.BytesIO(text.encode()))
-        return await self._send(request, body, headers)
+        return await self._send(request, body_of(form, tag(state_of(text), form), text), headers)
 
     async def get(self, request: web.Request) -> web.StreamResponse:
         """A document, or the answer to the query of the URL about it."""
@@ -232,18 +231,26 @@ class Rest:
         wanted = Wanted(request.headers.get("Accept"), asked.names, asked.is_wrapped)
         wanted.check()
         query = asked.query(address)
-        try:
-            async with self._client() as connection:
-                begin = time.perf_counter()
-                text = await connection.query_text(query)
-                took = time.perf_counter() - begin
-        except Refused as error:
-            if error.code == "prof:REPLY" and address and asked.is_whole():
-                return await self._answer_in_parts(request, wanted, address)
-            raise placed(error, asked.text or "", asked.flattened()) from error
-        body = await in_thread_if(len(text) > SHORT, answer_of, text, wanted)
-        timing = {"Server-Timing": f"server;dur={took * 1000:.3f}"}
-        return await self._send(request, body, timing)
+        async with self._room:
+            begin = time.perf_counter()
+            try:
+                text = await self._reply(query)
+            except Refused as error:
+                if error.code != "prof:REPLY" or not address or not asked.is_whole():
+                    raise placed(error, asked.text or "", asked.flattened()) from error
+                body = await asyncio.to_thread(self._in_parts, address, wanted)
+            else:
+                body = await in_thread_if(len(text) > SHORT, answer_of, text, wanted)
+            took = time.perf_counter() - begin
+        return await self._send(request, body, {"Server-Timing": f"server;dur={took * 1000:.3f}"})
+
+    async def _reply(self, query: str) -> str:
+        async with self._client() as connection:
+            return await connection.query_text(query)
+
+    def _in_parts(self, address: str, wanted: Wanted) -> Body:
+        with client.connect(self._place) as connection:
+            return document_in_parts(connection, address, wanted)
 
     async def _send(
         self, request: web.Request, body: Body, headers: Mapping[str, str]
@@ -254,21 +261,7 @@ class Rest:
             if request.method == "POST":
                 raise HttpRefusal(412, "xqs:CONDITION", "If-None-Match has the answer") from error
             raise
-        return await send(request, body, headers, self._settings.wait)
-
-    async def _answer_in_parts(
-        self, request: web.Request, wanted: Wanted, address: str
-    ) -> web.StreamResponse:
-        """A document that is too long for one reply, by way of a file."""
-        with tempfile.TemporaryFile() as file:
-            async with self._room:
-                body = await asyncio.to_thread(
-                    self._in_parts, address, wanted, cast(BinaryIO, file))
-            return await self._send(request, body, {})
-
-    def _in_parts(self, address: str, wanted: Wanted, file: BinaryIO) -> Body:
-        with client.connect(self._place) as connection:
-            return document_in_parts(connection, address, wanted, file)
+        return await self._sender.send(request, body, headers)
 
     async def put(self, request: web.Request) -> web.Response:
         """Stores a document of XML or of constructors; 201 where the address had none."""

@@ -1,45 +1,90 @@
-"""Answers on their way to a client that may read slowly, or not at all."""
+"""Answers on their way to clients that may read slowly, or not at all."""
 
 import asyncio
 import time
-from collections.abc import Mapping
+from collections.abc import Iterator, Mapping
+from contextlib import closing, contextmanager
+from dataclasses import dataclass
 
 from aiohttp import web
 
 from xqs.web_answers import Body
 from xqs.web_bodies import LEAST_RATE
+from xqs.web_forms import IN_UTF8
 from xqs.web_tags import etag
 
 PIECE = 1 << 16
 """An answer is sent in pieces of so many bytes, and each may wait for the client."""
 
 
-async def send(
-    request: web.Request, body: Body, headers: Mapping[str, str], wait: float
-) -> web.StreamResponse:
-    """Answers with a body, in UTF-8.
+@dataclass(eq=False)
+class _Going:
+    """An answer on its way, and how many of its bytes have not gone."""
 
-    Raises ConnectionResetError where the client takes nothing for `wait` seconds, or takes less
-    than LEAST_RATE over all; the connection is ended then.
+    request: web.Request
+    left: int
+
+    def cut_off(self) -> None:
+        """Ends the connection at once."""
+        if self.request.transport:
+            self.request.transport.abort()
+
+
+class Sender:
+    """Sends answers, of which at most `held` bytes wait for their clients.
+
+    Where more would, the client that has most to read is cut off. So is one that takes nothing for
+    `wait` seconds, or takes less than LEAST_RATE over all.
     """
-    size = body.bytes.seek(0, 2)
-    body.bytes.seek(0)
-    response = web.StreamResponse(headers={**etag(body.tag), **headers})
-    response.content_type, response.charset, response.content_length = body.form, "utf-8", size
-    if body.form.endswith("json"):
-        response.headers["Content-Type"] = body.form
-    await response.prepare(request)
-    if request.method == "HEAD":
-        return response
-    begin, sent = time.monotonic(), 0
-    while piece := body.bytes.read(PIECE):
-        left = min(wait, wait + sent / LEAST_RATE - (time.monotonic() - begin))
+
+    def __init__(self, wait: float, held: int) -> None:
+        self._wait, self._held = wait, held
+        self._going: set[_Going] = set()
+
+    async def send(
+        self, request: web.Request, body: Body, headers: Mapping[str, str]
+    ) -> web.StreamResponse:
+        """Answers with a body, which is closed then. ConnectionResetError where the client is cut
+        off."""
+        with closing(body.bytes):
+            size = body.bytes.seek(0, 2)
+            body.bytes.seek(0)
+            response = web.StreamResponse(headers={**etag(body.tag), **headers})
+            response.headers["Content-Type"] = _type_of(body.form)
+            response.content_length = size
+            await response.prepare(request)
+            if request.method != "HEAD":
+                with self._counted(_Going(request, size)) as going:
+                    await self._write(going, response, body)
+            return response
+
+    async def _write(self, going: _Going, response: web.StreamResponse, body: Body) -> None:
+        begin, sent = time.monotonic(), 0
+        while piece := body.bytes.read(PIECE):
+            left = min(self._wait, self._wait + sent / LEAST_RATE - (time.monotonic() - begin))
+            try:
+                await asyncio.wait_for(response.write(piece), max(left, 0))
+            except asyncio.TimeoutError:
+                going.cut_off()
+                raise ConnectionResetError("the client does not read its answer") from None
+            sent += len(piece)
+            going.left -= len(piece)
+        await response.write_eof()
+
+    @contextmanager
+    def _counted(self, going: _Going) -> Iterator[_Going]:
+        """While an answer is sent its bytes are counted with those of the others."""
+        self._going.add(going)
+        while len(self._going) > 1 and sum(it.left for it in self._going) > self._held:
+            slowest = max(self._going, key=lambda it: it.left)
+            self._going.discard(slowest)
+            slowest.cut_off()
         try:
-            await asyncio.wait_for(response.write(piece), max(left, 0))
-        except asyncio.TimeoutError:
-            if request.transport:
-                request.transport.abort()
-            raise ConnectionResetError("the client does not read its answer") from None
-        sent += len(piece)
-    await response.write_eof()
-    return response
+            yield going
+        finally:
+            self._going.discard(going)
+
+
+def _type_of(form: str) -> str:
+    """The header Content-Type of a form; JSON and archives have no character set."""
+    return f"{form}; charset=utf-8" if form in IN_UTF8 else form
