@@ -7,8 +7,9 @@ import unittest
 
 from tests.support import FolderTest
 from xqs import Closed, Refused, Wanting
-from xqs.prefixed import FlatQuery, flattened
+from xqs.prefixed import flattened
 from xqs.protocol import FrameFault
+from xqs.rewriting import Rewritten
 from xqs.web_forms import (
     FORMS,
     JSON,
@@ -148,12 +149,12 @@ class StatusTest(unittest.TestCase):
     def test_the_place_of_a_fault_is_looked_for_in_short_queries(self) -> None:
         error = Refused("XPST0017")
         for query, headers in (("1,\n cuont(1)", {"Xqs-Place": "2:2"}), ("count(1)", {})):
-            self.assertEqual(placed(error, query, FlatQuery(query)).headers, headers)
+            self.assertEqual(placed(error, query, Rewritten(query)).headers, headers)
         query = "a:b, c:d, cuont(1)"
         self.assertEqual(placed(error, query, flattened(query)).headers, {"Xqs-Place": "1:11"})
         begin = time.monotonic()
         long = "count(1)," * 100_000 + "cuont(1)"
-        self.assertEqual(placed(error, long, FlatQuery(long)).headers, {})
+        self.assertEqual(placed(error, long, Rewritten(long)).headers, {})
         self.assertLess(time.monotonic() - begin, 1)
 
     def test_a_refusal_is_its_code_and_a_sentence(self) -> None:

@@ -10,7 +10,7 @@ from xqs.client import Client
 from xqs.constructors import ConstructorWriter
 from xqs.errors import Refused
 from xqs.fetch import document_events
-from xqs.prefixed import prefixed_event, prefixed_text
+from xqs.prefixed import prefixed_events, told
 from xqs.values import Event
 from xqs.web_forms import (
     FORMS,
@@ -99,7 +99,7 @@ def _spelled(text: str, wanted: Wanted) -> tuple[str, str]:
             return form, items[0].xml
         form = wanted.choose(False)
     if form == XQUERY:
-        return form, text if wanted.names == KEEP else prefixed_text(text)
+        return form, told(text, wanted.names)
     if form in (JSON, PAGE):
         return form, (as_page_json if form == PAGE else as_json)(text, wanted.names)
     items = items or list(spelled_items(text, wanted.names))
@@ -134,9 +134,7 @@ def _writer(form: str, names: str, write: Callable[[str], object]) -> Callable[[
     if form != XQUERY:
         return XmlWriter(write, names).event
     writer = ConstructorWriter(write)
-    if names == KEEP:
-        return writer.event
-    return lambda event: writer.event(prefixed_event(event))
+    return lambda event: writer.event(next(prefixed_events((event,), names)))
 
 
 def _give(steps: Iterable[Event], takers: Sequence[Callable[[Event], object]]) -> None:

@@ -5,8 +5,9 @@ import xml.etree.ElementTree as ElementTree
 from collections.abc import Iterable, Iterator
 from dataclasses import dataclass, field
 
-from xqs.prefixed import FlatQuery, flattened
+from xqs.prefixed import flattened
 from xqs.queries import q
+from xqs.rewriting import Rewritten
 from xqs.values import quoted
 from xqs.web_charset import decoded
 from xqs.web_forms import NAMESPACE
@@ -92,10 +93,10 @@ class Asked:
         """Whether a whole document is asked for, and not some query about it."""
         return self.text is None and not self.is_wrapped
 
-    def flattened(self) -> FlatQuery:
+    def flattened(self) -> Rewritten:
         """The query's text, in which names with a prefix are flat where that is the choice."""
         text = self.text or ""
-        return flattened(text) if self.names == FLAT else FlatQuery(text)
+        return flattened(text) if self.names == FLAT else Rewritten(text)
 
     def query(self, address: str = "") -> str:
         """The query to be asked; of the document at an address, where one is given.

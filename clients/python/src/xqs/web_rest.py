@@ -14,9 +14,6 @@ from aiohttp import web
 from xqs import aio, client, protocol
 from xqs.endpoints import Endpoint
 from xqs.errors import Refused
-from xqs.prefixed import flat_query
-from xqs.requests import store_of
-from xqs.stores import chunks_of, store_again, store_xml_at
 from xqs.temporary import check_lasting
 from xqs.web_answers import Body, Wanted, answer_of, body_of, document_in_parts, new_file
 from xqs.web_bodies import charset_of, media_type, receive, received_query
@@ -25,6 +22,7 @@ from xqs.web_connections import at_work
 from xqs.web_files import ZIP, addresses_as_json, write_archive
 from xqs.web_forms import JSON, LIST_FORMS, XQUERY, chosen, spelled_list
 from xqs.web_guard import CHANGES, NAMES, check_host, check_origin, check_token
+from xqs.web_incoming import Put
 from xqs.web_lists import LIST_PARAMETERS, listing_of
 from xqs.web_locks import Locks
 from xqs.web_page import Page
@@ -33,7 +31,6 @@ from xqs.web_send import Sender
 from xqs.web_status import CODE, HttpRefusal, placed, refusal_of
 from xqs.web_store import drop_if, store_if
 from xqs.web_tags import Conditions, NotModified, conditions_of, etag, state_of, tag, tag_of_file
-from xqs.xml_in import XmlChoices
 from xqs.xml_names import Names
 from xqs.xml_out import FLAT, KEEP
 
@@ -274,22 +271,19 @@ class Rest:
         with tempfile.SpooledTemporaryFile(max_size=protocol.MAX_REQUEST) as file:
             body = cast(BinaryIO, file)
             await receive(request, body, self._settings.body, self._settings.wait)
-            body.seek(0)
-            store = _StoreXquery if kind == XQUERY else _StoreXml
+            put = Put(address, kind, body, names, charset)
             async with self._locks.held(address), self._room:
-                replaced = await asyncio.to_thread(
-                    self._store, store(address, body, names, charset), address, conditions)
+                replaced = await asyncio.to_thread(self._store, put, address, conditions)
         if replaced:
             return web.Response(text="replaced\n")
         location = {"Location": f"/rest/{urllib.parse.quote(address)}"}
         return web.Response(status=201, text="stored\n", headers=location)
 
-    def _store(self, document: "_Document", address: str, conditions: Conditions) -> bool:
+    def _store(self, put: Put, address: str, conditions: Conditions) -> bool:
         with client.connect(self._place) as connection:
             if not conditions.is_given:
-                return document.store(connection, address)
-            return store_if(
-                connection, address, conditions, lambda at: document.store(connection, at))
+                return put.store(connection, address)
+            return store_if(connection, address, conditions, lambda at: put.store(connection, at))
 
     async def delete(self, request: web.Request) -> web.Response:
         """Drops a document."""
@@ -305,37 +299,6 @@ class Rest:
                 drop_if(connection, address, conditions)
             else:
                 connection.drop(address)
-
-
-@dataclass(frozen=True)
-class _Document:
-    """The body of a PUT, and what is to be made of it."""
-
-    name: str
-    body: BinaryIO
-    names: Names
-    charset: str | None
-
-    def store(self, connection: client.Client, address: str) -> bool:
-        """Stores the document; whether it replaced another one."""
-        raise NotImplementedError
-
-
-class _StoreXml(_Document):
-    def store(self, connection: client.Client, address: str) -> bool:
-        choices, chunks = XmlChoices(names=self.names), chunks_of(self.body)
-        return store_xml_at(
-            connection, address, chunks, self.name, choices, self.charset).replaced
-
-
-class _StoreXquery(_Document):
-    def store(self, connection: client.Client, address: str) -> bool:
-        text = decoded(self.body.read(), self.charset)
-        if self.names is Names.FLAT:
-            text = flat_query(text)
-        if len(text.encode()) + protocol.MAX_ADDRESS < protocol.MAX_REQUEST:
-            return connection.request_later(store_of(address, text)).result() == "replaced"
-        return store_again(connection, address, text).replaced
 
 
 def _refused(refusal: HttpRefusal) -> web.Response:

@@ -5,8 +5,9 @@ from dataclasses import dataclass, field, replace
 
 from xqs import places
 from xqs.errors import Closed, Refused, ReplyError, XqError
-from xqs.prefixed import FlatQuery, PrefixFault
+from xqs.prefixed import PrefixFault
 from xqs.protocol import FrameFault
+from xqs.rewriting import Rewritten
 from xqs.temporary import KeptAddress
 
 STATUSES = {
@@ -70,7 +71,7 @@ def refusal_of(error: Exception, changes: bool) -> HttpRefusal | None:
     return None
 
 
-def placed(error: Refused, query: str, flat: FlatQuery) -> HttpRefusal:
+def placed(error: Refused, query: str, flat: Rewritten) -> HttpRefusal:
     """The refusal of a query, which was asked with flat names, with the place of its fault where
     the text tells one."""
     refusal = _told(error, STATUSES.get(error.code, BAD))

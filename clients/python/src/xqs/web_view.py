@@ -7,12 +7,12 @@ and puts those into the page as they are.
 import json
 from collections.abc import Callable, Iterator
 
-from xqs.prefixed import prefixed_text
+from xqs.prefixed import told
 from xqs.values import Atom, Close, Event, Leaf, NodeKind, Open, events, values
 from xqs.web_forms import type_of
 from xqs.web_lines import LineWriter
 from xqs.web_table import table_of
-from xqs.xml_out import KEEP, atom_text, speller
+from xqs.xml_out import atom_text, speller
 
 json_text = json.JSONEncoder(ensure_ascii=False).encode
 """A text as a string of JSON."""
@@ -114,8 +114,7 @@ def as_page_json(text: str, names: str) -> str:
     name, [name, value, ..], [tree, ..]]` for a document or an element, and null for an atomic
     value. `table` is null, or the items in rows.
     """
-    shown = text if names == KEEP else prefixed_text(text)
-    out = [f'{{"constructors":{json_text(shown)},"items":[']
+    out = [f'{{"constructors":{json_text(told(text, names))},"items":[']
     for number, item in enumerate(_items(text, names)):
         if number:
             out.append(",")
