@@ -294,6 +294,26 @@ class Limits(WebTest):
         self.check_refused(slow, 502, "xqs:CLOSED")
         self.assertIn("look before you send it again", slow.body)
 
+    def test_a_query_ends_with_its_client(self) -> None:
+        with RunningWeb("--seconds", "0") as web:
+            for method, path, body in (("GET", asked(ENDLESS), b""), ("POST", "/rest", ENDLESS.encode())):
+                host, _, port = web.host.rpartition(":")
+                head = (f"{method} {path} HTTP/1.1\r\nHost: {web.host}\r\n"
+                        f"Content-Type: {XQUERY}\r\nContent-Length: {len(body)}\r\n\r\n")
+                with socket.create_connection((host, int(port))) as connection:
+                    connection.sendall(head.encode() + body)
+                    time.sleep(1)
+                begin = time.monotonic()
+                self.check(web.ask("GET", asked("1")), 200, "1")
+                self.assertLess(time.monotonic() - begin, 10)
+
+    def test_time_and_memory_are_bounded_by_default(self) -> None:
+        with RunningWeb() as web:
+            path = Path(f"/proc/{web.server_id()}")
+            limits = [(it / "limits").read_text() for it in (path, *children_of(path))]
+        bounded = [it for it in limits if "Max address space     unlimited" not in it]
+        self.assertTrue(bounded)
+
     def test_names_are_flat_where_that_is_the_choice(self) -> None:
         text = '<p:a xmlns:p="urn:p"/>'
         self.check(self.web.put("n", text), 201)

@@ -15,6 +15,7 @@ from aiohttp import web
 from aiohttp.http import HttpProcessingError
 
 from xqs import listening, mux
+from xqs.bounds import bounds_of
 from xqs.cli import connection_options, server_of
 from xqs.endpoints import Command, Endpoint, UnixSocket
 from xqs.multiplexer import Multiplexer, is_on_file
@@ -156,6 +157,7 @@ def main(words: Sequence[str] | None = None) -> int:
         DEFAULTS, hosts=NAMES | {name.lower() for name in given.host}, token=token,
         names=Names(given.names), body=given.body, wait=given.wait, head=given.head,
         requests=given.requests, connections=given.connections, held=given.answers,
+        seconds=0 if isinstance(place, Command) else bounds_of(given).seconds or 0,
     )
     if isinstance(place, Command) and not is_on_file(place.words):
         say("the documents live in memory: they are lost whenever the server ends")

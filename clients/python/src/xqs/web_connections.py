@@ -11,6 +11,8 @@ from typing import TypeAlias, cast
 
 from aiohttp import web
 
+from xqs.web_guard import CHANGES
+
 FULL = (
     b"HTTP/1.1 503 Service Unavailable\r\nContent-Length: 42\r\nContent-Type: text/plain\r\n"
     b"Retry-After: 1\r\nXqs-Code: xqs:FULL\r\nConnection: close\r\n\r\n"
@@ -68,6 +70,7 @@ class Connection(asyncio.Protocol):
         self._transport: asyncio.Transport | None = None
         self._timer: asyncio.TimerHandle | None = None
         self._is_refused = self._has_ended = False
+        self._task: asyncio.Task[object] | None = None
         self._waits = 0
 
     def connection_made(self, transport: asyncio.BaseTransport) -> None:
@@ -100,6 +103,8 @@ class Connection(asyncio.Protocol):
         self._has_ended = True
         self._stop_waiting()
         self._connections.end(self)
+        if self._task:
+            self._task.cancel()
         if not self._is_refused:
             self._inner.connection_lost(error)
 
@@ -109,13 +114,18 @@ class Connection(asyncio.Protocol):
             self._transport.abort()
 
     @contextmanager
-    def request(self) -> Iterator[None]:
-        """While a request that has come whole is carried out, no head is awaited."""
+    def request(self, ends_with_client: bool) -> Iterator[None]:
+        """While a request that has come whole is carried out, no head is awaited.
+
+        The task of one that ends with its client is cancelled when the connection is lost.
+        """
         self._stop_waiting()
         self._connections.set_busy(self, True)
+        self._task = asyncio.current_task() if ends_with_client else None
         try:
             yield
         finally:
+            self._task = None
             if not self._has_ended:
                 self._connections.set_busy(self, False)
                 self._await_head()
@@ -146,11 +156,14 @@ class Connection(asyncio.Protocol):
 
 @contextmanager
 def at_work(request: web.Request) -> Iterator[None]:
-    """While a request is carried out, its connection is not closed for want of another."""
+    """While a request is carried out, its connection is not closed for want of another.
+
+    One that changes nothing ends with its client.
+    """
     transport = request.transport
     connection = transport.get_protocol() if transport else None
     if not isinstance(connection, Connection):
         yield
         return
-    with connection.request():
+    with connection.request(request.method not in CHANGES):
         yield

@@ -73,6 +73,7 @@ class WebSettings:
     requests: int = 64
     connections: int = 1000
     held: int = 1 << 30
+    seconds: float = 0
 
 
 async def in_thread_if(long: bool, function: Callable[..., T], *arguments: object) -> T:
@@ -140,11 +141,12 @@ class Rest:
     @asynccontextmanager
     async def _client(self) -> AsyncIterator[aio.AsyncClient]:
         """A connection of the request's own, so that each has its turn among the others."""
-        connection = await aio.connect(self._place)
-        try:
+        async with await aio.connect(self._place, timeout=self._settings.seconds) as connection:
             yield connection
-        finally:
-            await connection.close()
+
+    def _thread_client(self) -> client.Client:
+        """A connection for a thread."""
+        return client.connect(self._place, timeout=self._settings.seconds)
 
     async def get_page(self, request: web.Request) -> web.Response:
         """The page, or a file of it."""
@@ -169,7 +171,7 @@ class Rest:
 
     def _archive(self, prefix: str, names: str) -> BinaryIO:
         file = new_file()
-        with client.connect(self._place) as connection:
+        with self._thread_client() as connection:
             write_archive(connection, prefix, names, file)
         return file
 
@@ -246,7 +248,7 @@ class Rest:
             return await connection.query_text(query)
 
     def _in_parts(self, address: str, wanted: Wanted) -> Body:
-        with client.connect(self._place) as connection:
+        with self._thread_client() as connection:
             return document_in_parts(connection, address, wanted)
 
     async def _send(
@@ -280,7 +282,7 @@ class Rest:
         return web.Response(status=201, text="stored\n", headers=location)
 
     def _store(self, put: Put, address: str, conditions: Conditions) -> bool:
-        with client.connect(self._place) as connection:
+        with self._thread_client() as connection:
             if not conditions.is_given:
                 return put.store(connection, address)
             return store_if(connection, address, conditions, lambda at: put.store(connection, at))
@@ -294,7 +296,7 @@ class Rest:
         return web.Response(text="dropped\n")
 
     def _drop(self, address: str, conditions: Conditions) -> None:
-        with client.connect(self._place) as connection:
+        with self._thread_client() as connection:
             if conditions.is_given:
                 drop_if(connection, address, conditions)
             else:

@@ -4,7 +4,7 @@ from collections.abc import Mapping
 from dataclasses import dataclass, field, replace
 
 from xqs import places
-from xqs.errors import Closed, Refused, ReplyError, XqError
+from xqs.errors import Closed, Refused, ReplyError, TimedOut, XqError
 from xqs.prefixed import PrefixFault
 from xqs.protocol import FrameFault
 from xqs.rewriting import Rewritten
@@ -55,6 +55,8 @@ def refusal_of(error: Exception, changes: bool) -> HttpRefusal | None:
             return _told(error, STATUSES.get(error.code, BAD))
         case ReplyError():
             return _told(error, WANTING, RETRY)
+        case TimedOut():
+            return _late(error, changes)
         case Closed():
             return _closed(error, changes)
         case FrameFault():
@@ -91,6 +93,11 @@ def _at(refusal: HttpRefusal, query: str, at: int, why: str) -> HttpRefusal:
 def _told(error: ReplyError, status: int, headers: Mapping[str, str] = {}) -> HttpRefusal:
     sentence = str(error).removeprefix(f"{error.code}: ")
     return HttpRefusal(status, error.code, sentence, headers)
+
+
+def _late(error: TimedOut, changes: bool) -> HttpRefusal:
+    sentence = f"{error}; it may still be carried out" if changes else str(error)
+    return HttpRefusal(STATUSES["xqs:SECONDS"], "xqs:SECONDS", sentence)
 
 
 def _closed(error: Closed, changes: bool) -> HttpRefusal:
