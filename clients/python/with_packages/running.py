@@ -108,10 +108,8 @@ class RunningWeb:
                 if not name.endswith("/")}
 
     def server_id(self) -> int:
-        """The process id of the server below."""
-        found = subprocess.run(["pgrep", "-P", str(self.process.pid)],
-                               capture_output=True, text=True, check=True)
-        return int(found.stdout.split()[0])
+        """The process id of the server, which a keeper has started below."""
+        return _child_of(_child_of(self.process.pid))
 
     def terminate(self) -> int:
         """Ends it by SIGTERM; gives its exit status."""
@@ -132,3 +130,8 @@ class RunningWeb:
         said = self.said()
         self._folder.cleanup()
         assert "Traceback" not in said and "exception" not in said, said
+
+
+def _child_of(parent: int) -> int:
+    found = subprocess.run(["pgrep", "-P", str(parent)], capture_output=True, text=True, check=True)
+    return int(found.stdout.split()[0])

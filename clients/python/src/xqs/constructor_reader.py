@@ -15,11 +15,12 @@ from xqs.xml_names import NAMESPACE, NameFault, Names, incoming
 
 _SPACE = r"[ \t\n]"
 _STRING = r"""(?:"[^"]*+(?:""[^"]*+)*+"|'[^']*+(?:''[^']*+)*+')"""
+# No possessive quantifier around a group that captures: Python 3.11.2 has a fault there.
 _TOKEN = re.compile(
     rf"""(?P<space>{_SPACE}++)
     |(?P<head>(?P<kind>document|text|comment|element|attribute|processing-instruction)
-       (?:(?:(?<=element)|(?<=attribute)|(?<=instruction)){_SPACE}++(?P<name>{NAME}(?::{NAME})?))?+
-       {_SPACE}*+\{{)(?:{_SPACE}*+(?P<value>{_STRING}){_SPACE}*+\}})?+
+       (?:(?:(?<=element)|(?<=attribute)|(?<=instruction)){_SPACE}++(?P<name>{NAME}(?::{NAME})?))?
+       {_SPACE}*+\{{)(?:{_SPACE}*+(?P<value>{_STRING}){_SPACE}*+\}})?
     |(?P<close>\}})|(?P<comma>,)|(?P<string>{_STRING})""",
     re.VERBOSE,
 )
