@@ -4,6 +4,7 @@ import argparse
 import importlib
 import io
 import os
+import shlex
 import signal
 import sys
 import threading
@@ -15,8 +16,9 @@ from typing import TYPE_CHECKING
 
 from xqs import bounds
 from xqs.endpoints import Command, Endpoint, endpoint
-from xqs.errors import XqError
+from xqs.errors import NoPlace, XqError
 from xqs.starting import is_on_file
+from xqs.version import __version__
 
 if TYPE_CHECKING:
     from xqs.client import Client
@@ -29,11 +31,15 @@ SERVER_VARIABLE = "XQS_SERVER"
 class Entry:
     """A command: the function that carries it out, as `module:function`, and what it does.
 
-    The function takes the words after the command's own, and gives the exit status.
+    The function takes the words after the command's own, at least so many, and gives the exit
+    status.
     """
 
     function: str
     summary: str
+    least: int = 0
+    has_command: bool = False
+    """Whether it takes `-- COMMAND` by itself."""
 
     def load(self) -> Callable[[Sequence[str]], int]:
         """The function; ImportError where its module wants a package that is not there."""
@@ -43,21 +49,21 @@ class Entry:
 
 
 COMMANDS = {
-    "query": Entry("xqs.commands:query", "ask a query, and print its value"),
-    "store": Entry("xqs.commands:store", "store a file of XML or of constructors"),
-    "get": Entry("xqs.commands:get", "print a document, of any length"),
-    "drop": Entry("xqs.commands:drop", "drop documents"),
+    "query": Entry("xqs.commands:query", "ask a query, and print its value", 1),
+    "store": Entry("xqs.commands:store", "store a file of XML or of constructors", 2),
+    "get": Entry("xqs.commands:get", "print a document, of any length", 1),
+    "drop": Entry("xqs.commands:drop", "drop documents", 1),
     "list": Entry("xqs.commands:list_addresses", "print the addresses"),
-    "load": Entry("xqs.load:main", "store the XML files of a folder"),
-    "export": Entry("xqs.export:main", "write documents to a folder as files"),
-    "backup": Entry("xqs.backup:main", "write all documents to one file"),
-    "restore": Entry("xqs.backup:restore_main", "store the documents of a backup"),
+    "load": Entry("xqs.load:main", "store the XML files of a folder", 1),
+    "export": Entry("xqs.export:main", "write documents to a folder as files", 1),
+    "backup": Entry("xqs.backup:main", "write all documents to one file", 1),
+    "restore": Entry("xqs.backup:restore_main", "store the documents of a backup", 1),
     "gc": Entry("xqs.gc:main", "drop temporary documents that a crash left"),
     "shell": Entry("xqs.shell:main", "ask queries by hand"),
-    "mux": Entry("xqs.mux:main", "one server for many clients"),
-    "node": Entry("xqs.cluster.main:main", "a server that follows a replicated log"),
-    "snapshot": Entry("xqs.cluster.main:snapshot_main", "have a node take a snapshot now"),
-    "web": Entry("xqs.web:main", "HTTP on loopback, and a page"),
+    "mux": Entry("xqs.mux:main", "one server for many clients", has_command=True),
+    "node": Entry("xqs.cluster.main:main", "a server that follows a replicated log", has_command=True),
+    "snapshot": Entry("xqs.cluster.main:snapshot_main", "have a node take a snapshot now", has_command=True),
+    "web": Entry("xqs.web:main", "HTTP on loopback, and a page", has_command=True),
 }
 
 
@@ -129,13 +135,35 @@ def connected(given: argparse.Namespace, place: Endpoint | None = None) -> "Clie
     return connect(place or server_of(given), timeout=it.seconds, memory=it.memory or 0)
 
 
+def with_server(entry: Entry, words: Sequence[str]) -> list[str]:
+    """The words of a command, with the server that stands behind `--` as that of `--server`.
+
+    Where too few words stand before the `--` it is no end of them, but says that the next one is no
+    option: `xqs query -- -1`.
+    """
+    marks = [number for number, word in enumerate(words) if word == "--"]
+    after_least = [it for it in marks if it >= entry.least + (it != marks[0])]
+    if not after_least:
+        return list(words)
+    at = after_least[0]
+    command = list(words[at + 1 :])
+    if not command:
+        raise NoPlace("behind -- stands the command of a server")
+    if any(it == "--server" or it.startswith("--server=") for it in words[:at]):
+        raise NoPlace("--server and a command behind -- are two servers")
+    return ["--server", shlex.join(command), *words[:at]]
+
+
 def main(words: Sequence[str] | None = None) -> int:
     """Carries out a command, and gives its exit status: 0 done, 1 refused, 2 misused."""
-    given = _parser().parse_args(words)
+    words = list(sys.argv[1:] if words is None else words)
+    given = _parser().parse_args(words[:1])
+    rest = words[1:]
+    entry = COMMANDS[given.command]
     _show_any_name()
     _end_by_signals()
     try:
-        return COMMANDS[given.command].load()(given.rest)
+        return entry.load()(rest if entry.has_command else with_server(entry, rest))
     except ModuleNotFoundError as error:
         print(f"xqs {given.command}: it wants the package {error.name}", file=sys.stderr)
     except BrokenPipeError:
@@ -177,9 +205,11 @@ def _parser() -> argparse.ArgumentParser:
     parser = argparse.ArgumentParser(
         prog="xqs",
         description="A client of xq_server.",
-        epilog=f"commands:\n{table}\n\n'xqs COMMAND --help' says more of each.",
+        epilog=f"commands:\n{table}\n\n'xqs COMMAND --help' says more of each. "
+        "'xqs COMMAND .. -- SERVER [WORDS]' starts that server.",
         formatter_class=argparse.RawDescriptionHelpFormatter,
     )
+    parser.add_argument("--version", action="version", version=f"xqs {__version__}")
     parser.add_argument("command", metavar="COMMAND", choices=COMMANDS)
     parser.add_argument("rest", metavar="..", nargs=argparse.REMAINDER)
     return parser

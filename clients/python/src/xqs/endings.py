@@ -13,7 +13,8 @@ from typing import Generic
 
 from xqs.bounds import Bounds, lost, named, overdue
 from xqs.endpoints import Command, Endpoint
-from xqs.errors import Closed, Lost, TimedOut, Unknown, XqError
+from xqs.errors import Closed, Lost, NotStarted, TimedOut, Unknown, XqError
+from xqs.in_use import UNSTARTED
 from xqs.requests import SHOWN, F, Waiting
 from xqs.starting import is_on_file
 
@@ -133,6 +134,8 @@ def gone(missing: set[str]) -> str:
 
 
 def _closed(waiting: Waiting[F], why: str) -> Closed:
+    if why.startswith(UNSTARTED):
+        return NotStarted(why)
     shown = waiting.request.shown[:SHOWN]
     kind = Unknown if waiting.request.changes else Closed
     return kind(f"{why} before the reply to: {shown}")

@@ -103,6 +103,10 @@ class Lost(Closed):
     out."""
 
 
+class NotStarted(Closed):
+    """A server that was started here ended before its first reply; nothing was carried out."""
+
+
 class TimedOut(XqError, TimeoutError):
     """A request took longer than it may, or its reply was awaited for longer than was said."""
 

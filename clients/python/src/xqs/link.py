@@ -154,6 +154,7 @@ class Link:
         waiting = self._in_flight.take_all()
         if self.watch.ended:
             cause, why = Cause.CLOSED, self.watch.ended
+        why = self.watch.told_end(cause, why, waiting, self._status)
         ended = after_end(cause, why, self._origin, waiting, set())
         if not self.watch.wants_stream(cause, ended):
             self.watch.end_for_good(why)

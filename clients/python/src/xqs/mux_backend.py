@@ -10,8 +10,9 @@ from collections.abc import Callable, Iterator, Sequence
 
 from xqs import protocol
 from xqs.errors import XqError
+from xqs.in_use import ended_at_start
 from xqs.mux_peer import Request
-from xqs.starting import kept
+from xqs.starting import how_ended, kept
 from xqs.streams import PIECE
 from xqs.waiting import first_set
 
@@ -67,18 +68,18 @@ class Backend:
         answered = asyncio.Event()
         backend = cls(process, lambda request, reply: answered.set(), None)
         try:
-            await backend._probe(answered)
+            await backend._probe(command, answered)
         except BaseException:
             backend.kill()
             raise
         backend._on_reply, backend._seconds = on_reply, seconds
         return backend
 
-    async def _probe(self, answered: asyncio.Event) -> None:
+    async def _probe(self, command: Sequence[str], answered: asyncio.Event) -> None:
         await self.send(Request(None, 0, PROBE))
         await first_set(answered, self.ended)
         if not answered.is_set():
-            raise StartFailed(f"the server ended as it started: {self.status()}")
+            raise StartFailed(ended_at_start(command, self.status()))
 
     async def send(self, request: Request) -> None:
         """Sends a request, and waits until the pipe has taken it or the server has ended."""
@@ -182,9 +183,4 @@ class Backend:
 
     def status(self) -> str:
         """How the process ended, in words."""
-        code = self.process.returncode
-        if code is None:
-            return "it runs"
-        if code < 0:
-            return f"ended by {signal.Signals(-code).name}"
-        return f"exit status {code}"
+        return how_ended(self.process.returncode)

@@ -5,6 +5,7 @@ import re
 from dataclasses import dataclass
 
 from xqs import places
+from xqs.tokens import tokens
 
 
 @dataclass(frozen=True)
@@ -46,7 +47,7 @@ def is_whole(text: str, is_typed: bool = True) -> bool:
     """
     if is_command(text) or not text.strip():
         return True
-    *_, last = places.tokens(text)
+    *_, last = tokens(text)
     if last.kind.startswith("open"):
         return False
     if last.text == END:
@@ -62,7 +63,7 @@ def parted(text: str) -> list[str]:
         return [text.strip()]
     parts, rest = [], text
     while rest.strip():
-        *_, last = places.tokens(rest)
+        *_, last = tokens(rest)
         at = last.at if last.text == END else len(rest)
         parts.append(rest[:at].strip())
         rest = rest[at + 1 :]
@@ -96,7 +97,7 @@ class Lines:
 
 def _is_quoted(text: str) -> bool:
     """Whether a string or a comment is open at the end of a text."""
-    *_, last = places.tokens(text)
+    *_, last = tokens(text)
     return last.kind.startswith("open")
 
 

@@ -3,6 +3,7 @@
 import errno
 import os
 import shutil
+import signal
 import sys
 from collections.abc import Sequence
 from pathlib import Path
@@ -28,6 +29,15 @@ def _find(program: str) -> None:
     if shutil.which(program) is None:
         number = errno.EACCES if os.path.exists(program) else errno.ENOENT
         raise OSError(number, os.strerror(number), program)
+
+
+def how_ended(status: int | None) -> str:
+    """How a process ended, in words."""
+    if status is None:
+        return "it runs"
+    if status < 0:
+        return f"ended by {signal.Signals(-status).name}"
+    return f"exit status {status}"
 
 
 def is_on_file(command: Sequence[str]) -> bool:

@@ -5,8 +5,11 @@ import time
 from typing import Generic
 
 from xqs.endings import END_PATIENCE, GRACE, Cause, Ended, Origin, may_end
+from xqs.endpoints import Command
 from xqs.errors import TimedOut
+from xqs.in_use import ended_at_start
 from xqs.requests import PROBE, SHOWN, F, InFlight, Waiting
+from xqs.starting import how_ended
 
 SOCKET_SHARE = 1.05
 """Of the time that a request has, so much is waited at a socket, whose server has the same bound."""
@@ -94,6 +97,17 @@ class Watch(Generic[F]):
         front.fail(TimedOut(f"no reply for {front.seconds:g} seconds; the server may be at it still "
                             f"(the request was: {front.request.shown[:SHOWN]})"))
         return None
+
+    def told_end(self, cause: Cause, why: str, waiting: list[Waiting[F]],
+                 status: int | None) -> str:
+        """Why a stream ended; more of it where the server has not begun to answer."""
+        origin = self.origin
+        is_unbegun = any(it.request is PROBE for it in waiting) and cause is Cause.ITSELF
+        if not is_unbegun or origin is None or not isinstance(origin.place, Command):
+            return why
+        if self.closing is not None and all(it.request is PROBE for it in waiting):
+            return why
+        return ended_at_start(origin.place.words, how_ended(status))
 
     def wants_stream(self, cause: Cause, ended: Ended[F]) -> bool:
         """Whether another stream is to follow at once. Where none is, and none can follow later,
