@@ -15,7 +15,7 @@ from dataclasses import dataclass
 from pathlib import Path
 from typing import IO, BinaryIO
 
-from xqs.cli import connected, connection_options
+from xqs.cli import connected, connection_options, server_of, warn_of_memory
 from xqs.client import Client
 from xqs.errors import Refused, XqError
 from xqs.fetch import write_text
@@ -227,7 +227,9 @@ def restore_main(words: Sequence[str]) -> int:
     parser.add_argument("backup", type=Path)
     parser.add_argument("--replace", action="store_true", help="replace documents that are there")
     given = parser.parse_args(words)
-    with connected(given) as client, open(given.backup, "rb") as file:
+    place = server_of(given)
+    warn_of_memory(place, "restore")
+    with connected(given, place) as client, open(given.backup, "rb") as file:
         _pass_state(file)
         try:
             with progress_of() as progress:

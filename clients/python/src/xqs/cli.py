@@ -123,8 +123,8 @@ def is_lasting(place: Endpoint) -> bool:
 def warn_of_memory(place: Endpoint, command: str) -> None:
     """Says so, where what is stored lives in memory and is gone at the command's end."""
     if not is_lasting(place):
-        print(f"xqs {command}: the documents live in memory, and are gone when this command ends: "
-              "name a --file, or a server that goes on", file=sys.stderr)
+        print(f"xqs {command}: no file is named, so the documents live in memory and are gone when "
+              "this command ends: name a --file, or a server that goes on", file=sys.stderr)
 
 
 def connected(given: argparse.Namespace, place: Endpoint | None = None) -> "Client":

@@ -10,7 +10,7 @@ from pathlib import Path
 from typing import BinaryIO
 
 from xqs import places, stores
-from xqs.cli import connected, connection_options
+from xqs.cli import connected, connection_options, server_of, warn_of_memory
 from xqs.client import Client
 from xqs.constructors import write_constructors
 from xqs.errors import Refused
@@ -95,7 +95,9 @@ def store(words: Sequence[str]) -> int:
     parser.add_argument("path", type=Path, help="the file, or - for standard input")
     xml_options(parser)
     given = parser.parse_args(words)
-    with connected(given) as client:
+    place = server_of(given)
+    warn_of_memory(place, "store")
+    with connected(given, place) as client:
         if str(given.path) == "-":
             answer = store_file(client, given.address, sys.stdin.buffer, "-", xml_choices(given))
         else:

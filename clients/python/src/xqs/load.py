@@ -11,7 +11,7 @@ from fnmatch import fnmatch
 from pathlib import Path
 
 from xqs import switches
-from xqs.cli import connected, connection_options, is_lasting, server_of
+from xqs.cli import connected, connection_options, server_of, warn_of_memory
 from xqs.client import Client
 from xqs.errors import Closed, Wanting, XqError
 from xqs.incoming import incoming
@@ -260,9 +260,7 @@ def main(words: Sequence[str]) -> int:
     given.prefix = whole_prefix(given.prefix)
     search = Search(given.folder, given.match)
     place = server_of(given)
-    if not is_lasting(place):
-        print("xqs load: the documents are gone when this command ends: name a --file, or a "
-              "server that goes on", file=sys.stderr)
+    warn_of_memory(place, "load")
     head = _head(given, str(place))
     journal = Journal(given.journal or default_place(json.dumps(head)), head, given.anew)
     try:

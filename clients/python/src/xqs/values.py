@@ -5,9 +5,12 @@ from collections.abc import Iterator
 from dataclasses import dataclass, field
 from decimal import Decimal
 from enum import StrEnum
-from typing import TypeAlias
+from typing import TYPE_CHECKING, Any, TypeAlias
 
 from xqs.errors import Misspelt
+
+if TYPE_CHECKING:
+    from xml.etree import ElementTree
 
 
 class NodeKind(StrEnum):
@@ -85,6 +88,29 @@ class Node:
         from xqs.xml_out import xml
 
         return xml(self, names)
+
+
+    def element(self) -> "ElementTree.Element":
+        """This element, or that of this document, as xml.etree.ElementTree has it; NoTree (a
+        ValueError) where it has no room for it."""
+        from xqs.trees import to_element
+
+        return to_element(self)
+
+    def lxml(self) -> Any:
+        """This element, or this document as a tree, as lxml has it; NoTree (a ValueError) where it
+        has no room for it, or isn't installed."""
+        from xqs.trees import to_lxml
+
+        return to_lxml(self)
+
+    @classmethod
+    def of(cls, tree: Any) -> "Node":
+        """The node of an element or of a tree of ElementTree or lxml; NoTree for names with a
+        namespace."""
+        from xqs.trees import from_tree
+
+        return from_tree(tree)
 
 
 Item: TypeAlias = int | Decimal | str | bool | Untyped | Node
