@@ -39,14 +39,14 @@ PROGRAMS = {
     "test_page": ("chromium",), "test_page_tools": ("chromium",), "test_page_values": ("chromium",),
     "test_xml_files": ("xmllint",),
 }
-ALLOCATIONS = {
-    "allocations": [],
-    "allocations_adoption": [
-        "xq_rows_tests", "adoption_tests::each_allocation_in_memory",
-        "adoption_tests::each_allocation_on_memory_disks",
-    ],
+GROWTHS = {
+    "growths": [], "growths_file": ["--file"],
+    "growths_atoms": ["--table", "atoms.toml"], "growths_grammar": ["--table", "grammar.toml"],
+    "growths_joins": ["--table", "joins.toml"], "growths_queries": ["--table", "queries.toml"],
+    "growths_tuples": ["--table", "tuples.toml"],
+    "growths_kept": ["--file", "--table", "kept.toml"],
 }
-"""The tests of which each allocation is refused in turn; without words those of a store's calls."""
+"""The rows over which each allocation of the program is refused in turn."""
 LAST_LINES = 60
 
 
@@ -119,14 +119,10 @@ def program_trials(given: Given) -> Iterator[Trial]:
     yield Trial("dialogue", ["python3", "tools/try_dialogue.py", *given.server], wants=served)
     yield Trial("file", ["python3", "tools/try_file.py"], (), ("sqlite3",), built)
     yield Trial("kills", ["python3", "tools/kill_often.py"], wants=built)
-    growths = ["python3", "tools/refuse_each_growth.py"]
-    yield Trial("growths", growths, (), ("cc",), built)
-    yield Trial("growths_file", [*growths, "--file"], (), ("cc",), built)
-    for table in ("queries.toml", "joins.toml"):
-        words = [*growths, "--table", table]
-        yield Trial(f"growths_{table.partition('.')[0]}", words, (), ("cc",), built)
-    yield Trial("rows", ["python3", "-m", "unittest", "discover", "-s", "tools", "-p", "test_rows*"],
-                wants=served, environment={"XQS_SERVER": server})
+    for name, words in GROWTHS.items():
+        yield Trial(name, ["python3", "tools/refuse_each_growth.py", *words], (), ("cc",), built)
+    rows = ["python3", "-m", "unittest", "discover", "-s", "tools", "-p", "test_rows*.py"]
+    yield Trial("rows", rows, wants=served, environment={"XQS_SERVER": server})
     seconds = "3600" if given.is_long else "60"
     yield Trial("soak", ["python3", "tools/soak.py", "--seconds", seconds], wants=built)
     yield Trial("limits", ["python3", "bench/limits.py"], wants=built)
@@ -145,9 +141,7 @@ def library_trials(given: Given) -> Iterator[Trial]:
     """The scripts that build a program of their own over proved libraries."""
     over = ["python3", "tools/over_gate.py", given.gate or ""]
     yield Trial("stock_reader", [*over, "tools/read_file.sh"], (), ("rt", "sqlite3"), proved)
-    for name, words in ALLOCATIONS.items():
-        tests = [*over, "tools/each_allocation.sh", *words]
-        yield Trial(name, tests, (), ("rt", "cc"), proved)
+    yield Trial("allocations", [*over, "tools/each_allocation.sh"], (), ("rt", "cc"), proved)
     yield Trial("views", [*over, "python3", "tools/try_view.py"], (), ("rt",), proved)
 
 

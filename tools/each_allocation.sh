@@ -1,8 +1,8 @@
 #!/usr/bin/env bash
 # Runs tests of refused allocations again and again, refusing the first allocation, then the second,
 # and so on, until a run meets no refusal. Each run has to pass: what was refused changed nothing,
-# and succeeds when it is asked again. A store on disks in memory may be shut instead; then each
-# later call is refused, and its files still hold the map as it was.
+# and succeeds when it is asked again. tools/refuse_each_growth.py does so over the program, in
+# memory and on files.
 #
 #   tools/each_allocation.sh [CRATE TEST..]
 #
@@ -15,8 +15,7 @@ trap 'rm -rf "$work"' EXIT
 cc -shared -fPIC -O1 -o "$work/refuse.so" "$top/tools/refuse.c" -ldl
 
 crate=${1:-xq_rows_tests}
-[ $# -gt 1 ] && shift || set -- tests::each_allocation_in_memory \
-    tests::each_allocation_on_memory_disks
+[ $# -gt 1 ] && shift || set -- tests::each_allocation_in_memory
 cd "$top/crates/$crate"
 program=out/${crate}_tests
 [ -x "$program" ] || rt test

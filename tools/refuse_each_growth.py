@@ -5,12 +5,13 @@
         [--table NAME ..]
 
 One server gets the worked rows in order, a frame that is no request, three requests that tell the
-documents, and a length over the limit; with --table one gets each run of the table's groups in
-their place, each row twice, so that what was refused is asked again at once. Of all its allocations one is refused: in memory, the
-process forks at each, and the child's is refused (tools/refuse.c); with --file there is a run over
-a new file for each. Such a run has to end by saying that there was no room, after whole replies; or
-the frame that met the refusal has status 2, each one before it its own reply, and each one after it
-the reply of a server that never got that frame; where the database has shut, the later ones may
+documents, and a length over the limit; with --table a server gets each run of the table's groups in
+their place, each query twice, so that what was refused is asked again at once. Of all its
+allocations one is refused: in memory, the process forks at each, and the child's is refused
+(tools/refuse.c); with --file there is a run over a new file for each, or over a copy of the one
+that the table names. Such a run has to end by saying that there was no room, after whole replies;
+or the frame that met the refusal has status 2, each one before it its own reply, and each one after
+it the reply of a server that never got that frame; where the database has shut, the later ones may
 want the store. A file is then opened again, and has to hold the documents of those replies; those
 before the refused frame or after it, where the database has shut.
 
@@ -264,7 +265,8 @@ def checked(program: Program, words: Sequence[str]) -> tuple[Ended, int]:
 def compiled(folder: pathlib.Path) -> pathlib.Path:
     """The allocator that refuses."""
     library = folder / "refuse.so"
-    words = ["cc", "-shared", "-fPIC", "-O1", "-o", library, TOP / "tools" / "refuse.c", "-ldl"]
+    source = TOP / "tools" / "refuse.c"
+    words = ["cc", "-shared", "-fPIC", "-O1", "-o", str(library), str(source), "-ldl"]
     subprocess.run(words, check=True)
     return library
 
@@ -292,7 +294,8 @@ def faults_of(given: Input, allocator: pathlib.Path, asked: argparse.Namespace) 
     for kind, count in collections.Counter(it.kind for it in judged.values()).most_common():
         print(f"{count:6}  {kind}")
     print(f"{given.name}: {total} allocations in {len(program.sent) + 1} frames; refused "
-          f"{len(judged)} of them, one at a time, in {took:.0f} s; {len(faults)} faults", flush=True)
+          f"{len(judged)} of them, one at a time, in {took:.0f} s; {len(faults)} faults",
+          flush=True)
     return len(faults)
 
 

@@ -1,8 +1,9 @@
 """Sends rows of tables (row_tables.py) to servers, and says which have other replies.
 
 The frames of a run are sent ahead, to a server of its own, and their replies are compared once it
-has ended. A row that is refused is sent twice, one right after the other: a refusal changes
-nothing. Each reply of a query is itself a query, which gives itself over no documents.
+has ended. A row that is refused is sent twice, one right after the other, unless its group stands
+`once`: a refusal changes nothing. Each reply of a query is itself a query, which gives itself over
+no documents.
 """
 
 import contextlib
@@ -68,7 +69,7 @@ def served(command: Sequence[str], data: bytes) -> Ended:
 def asked(run: Iterable[Group]) -> list[tuple[str, Row]]:
     """The rows as they are sent, each with the name of its group."""
     return [(group.name, row) for group in run for row in group.rows
-            for _time in range(2 if row.status == 1 else 1)]
+            for _time in range(2 if row.status == 1 and not group.once else 1)]
 
 
 def shown(text: bytes) -> str:

@@ -12,6 +12,8 @@ with another request:
     { kind = "L", reply = TEXT }
     { kind = "S", body = HEX, reply = TEXT }
 
+Where a group stands `once`, its refused rows are not asked again: they take long.
+
 A text is a string, a list of texts, or a text of which parts stand so many times: { times, before,
 middle, after }. A reply that reads as a code has status 1, any other status 0; `wants` in place of
 `reply` is for status 2.
@@ -53,6 +55,7 @@ class Group:
     rows: tuple[Row, ...]
     follows: bool = False
     base: pathlib.Path | None = None
+    once: bool = False
 
 
 def text_of(given: Given) -> bytes:
@@ -124,7 +127,7 @@ def group_of(given: Mapping[str, Any]) -> Group:
     """The group that a table has."""
     rows = (*stores(given.get("stored", [])), *map(row_of, given["rows"]))
     base = FOLDER / given["base"] if "base" in given else None
-    return Group(given["name"], rows, given.get("follows", False), base)
+    return Group(given["name"], rows, given.get("follows", False), base, given.get("once", False))
 
 
 def groups(name: str) -> list[Group]:

@@ -7,7 +7,7 @@ import subprocess
 import tempfile
 import unittest
 from collections.abc import Callable, Mapping
-from typing import Any, BinaryIO
+from typing import IO, Any
 
 import row_runs
 import row_tables
@@ -21,11 +21,12 @@ LIST = Row(b"L", b"", 0, b"()")
 PUT = row_tables.row_of({"put": "library", "reply": "stored"})
 SERVED = ("first", "path", "node", "dropping", "last")
 FRAME_LIMIT = 1_000_000
-# No frame of these has so many bytes.
 PIECES = (1, 2, 3, 7)
 
 
-def ended(words: list[str], data: bytes = b"", folder: pathlib.Path | None = None) -> row_runs.Ended:
+def ended(
+    words: list[str], data: bytes = b"", folder: pathlib.Path | None = None
+) -> row_runs.Ended:
     """What the program with these words writes, and how it ends."""
     done = subprocess.run(
         [*command(), *words], input=data, capture_output=True, timeout=SECONDS, cwd=folder)
@@ -37,7 +38,7 @@ def framed(row: Row, tag: int = 1) -> bytes:
     return request(tag, row)
 
 
-def write_in_pieces(to: BinaryIO, data: bytes, piece: int) -> None:
+def write_in_pieces(to: IO[bytes], data: bytes, piece: int) -> None:
     """Writes the bytes, so many at once, and closes the stream."""
     for at in range(0, len(data), piece):
         to.write(data[at:at + piece])

@@ -11,14 +11,3 @@ pub fn is_right(rt: &impl Abort, is_right: bool, place: usize) {
 pub fn none_is_wrong(rt: &impl Abort, wrong: Option<usize>, table: usize) {
     assert_eq!(rt; wrong, None, "table {table}");
 }
-
-/// Asserts that no call of the list with a number was answered wrongly: the first that was has
-/// another number than 0.
-pub fn each_is_answered(rt: &impl Abort, wrong: usize, list: usize) {
-    assert_eq!(rt; wrong, 0, "list {list}");
-}
-
-/// Asserts what holds of the row of a table with a name.
-pub fn is_right_for(rt: &impl Abort, is_right: bool, name: &str) {
-    assert!(rt; is_right, "{name}");
-}

@@ -2,18 +2,28 @@
 //! over one whose rows the store kept.
 
 use crate::asserts::none_is_wrong;
-use crate::stores::{in_memory, load, on_disks, put};
+use crate::documents::Document;
+use crate::stores::{in_memory, load, put};
 use crate::views::{Task, seen};
 use sqlite::Alter;
 use std::alloc::Global;
 use xq_atoms::Want;
-use xq_regions::{Axis, Fragment};
+use xq_regions::Axis;
 use xq_rows::Store;
-use xq_samples::documents::{great_library, held, library, register};
+use xq_samples::documents::held;
 use xq_samples::scans::{
     Counts, GREAT_SCANS, REGISTER_NODES, REGISTER_SCANS, SCANS, Scan, read_by,
 };
 use xq_sources::{Fragments, RowLender};
+
+/// A document, and steps over it.
+type Steps = (Document, &'static [Scan]);
+
+const STEPS: [Steps; 3] = [
+    (Document::Library, &SCANS),
+    (Document::Register, &REGISTER_SCANS),
+    (Document::Great, &GREAT_SCANS),
+];
 
 /// Puts the one document of the store in its own place, so that no row of it stays.
 fn put_again<S: Alter>(store: &mut Store<S>) -> Result<(), Want> {
@@ -83,10 +93,10 @@ fn wrong_scan<S: Alter + Drop>(
 fn wrong_scan_of<S: Alter + Drop>(
     alloc: Global,
     store: Store<S>,
-    document: Fragment,
-    scans: &[Scan],
+    (document, scans): Steps,
 ) -> Result<Option<usize>, Want> {
     let mut store = store;
+    let document = document.made(alloc)?;
     let _put = put(&mut store, "b", &document)?;
     let mut fragments = held(alloc, document)?;
     fragments.fetch_row(alloc, 0, 0)?;
@@ -94,37 +104,13 @@ fn wrong_scan_of<S: Alter + Drop>(
 }
 
 #[test]
-fn steps_in_memory(rt: HostRuntime) -> Result<(), Want> {
-    let alloc = rt.alloc();
-    let document = library(alloc)?;
-    none_is_wrong(
-        &rt,
-        wrong_scan_of(alloc, in_memory(alloc)?, document, &SCANS)?,
-        0,
-    );
-    Ok(())
-}
-
-#[test]
-fn register_steps_in_memory(rt: HostRuntime) -> Result<(), Want> {
-    let alloc = rt.alloc();
-    let document = register(alloc)?;
-    none_is_wrong(
-        &rt,
-        wrong_scan_of(alloc, in_memory(alloc)?, document, &REGISTER_SCANS)?,
-        0,
-    );
-    Ok(())
-}
-
-#[test]
-fn great_steps_on_memory_disks(rt: HostRuntime) -> Result<(), Want> {
-    let alloc = rt.alloc();
-    let document = great_library(alloc)?;
-    none_is_wrong(
-        &rt,
-        wrong_scan_of(alloc, on_disks(alloc)?, document, &GREAT_SCANS)?,
-        0,
-    );
+fn steps(rt: HostRuntime) -> Result<(), Want> {
+    for (number, steps) in STEPS.iter().enumerate() {
+        none_is_wrong(
+            &rt,
+            wrong_scan_of(rt.alloc(), in_memory(rt.alloc())?, *steps)?,
+            number,
+        );
+    }
     Ok(())
 }

@@ -1,5 +1,5 @@
 //! Calls of a store, each with the answer that is wanted of it.
-use crate::documents::{Document, EMPTY, LIBRARY};
+use crate::documents::Document;
 use crate::stores::{hand_over, load, put};
 use sqlite::Alter;
 use std::alloc::Global;
@@ -14,38 +14,9 @@ pub enum Call {
     Put(&'static str, Document, Put),
     /// A put that hands its document over, the rows of which are kept.
     HandOver(&'static str, Document, Put),
-    /// A put that is refused for want of the store.
-    Refuse(&'static str, Document),
     Load(&'static str, Option<Document>),
     Drop(&'static str, bool),
 }
-
-/// A document is put, replaced, listed, loaded and dropped.
-pub const CALL_ROWS: [Call; 7] = [
-    Call::List(&[]),
-    Call::Put("b", LIBRARY, Put::Stored),
-    Call::Put("b", LIBRARY, Put::Replaced),
-    Call::Load("b", Some(LIBRARY)),
-    Call::List(&["b"]),
-    Call::Drop("b", true),
-    Call::Drop("b", false),
-];
-
-/// A replaced document has no row of the old one, and no other document is touched; addresses stand
-/// by their bytes, capitals first.
-pub const REPLACING: [Call; 11] = [
-    Call::Put("b", LIBRARY, Put::Stored),
-    Call::Put("a/1", LIBRARY, Put::Stored),
-    Call::Put("b", EMPTY, Put::Replaced),
-    Call::Load("b", Some(EMPTY)),
-    Call::Load("a/1", Some(LIBRARY)),
-    Call::List(&["a/1", "b"]),
-    Call::Drop("a/1", true),
-    Call::Load("a/1", None),
-    Call::List(&["b"]),
-    Call::Put("B", EMPTY, Put::Stored),
-    Call::List(&["B", "b"]),
-];
 
 /// The number of the first call whose answer is another, or 0.
 pub fn first_wrong<S: Alter>(
@@ -61,16 +32,6 @@ pub fn first_wrong<S: Alter>(
     Ok(0)
 }
 
-/// The same of a store that is let go then.
-pub fn first_wrong_of<S: Alter + Drop>(
-    alloc: Global,
-    store: Store<S>,
-    calls: &[Call],
-) -> Result<usize, Want> {
-    let mut store = store;
-    first_wrong(alloc, &mut store, calls)
-}
-
 /// Makes the call, and tells whether the answer is the one that is wanted.
 pub fn is_answered<S: Alter>(
     alloc: Global,
@@ -84,9 +45,6 @@ pub fn is_answered<S: Alter>(
         }
         Call::HandOver(address, document, wanted) => {
             Ok(hand_over(alloc, store, address, document.made(alloc)?)? == wanted)
-        }
-        Call::Refuse(address, document) => {
-            Ok(put_made(alloc, store, address, document) == Err(Want::Store))
         }
         Call::Load(address, document) => loads(store, address, document),
         Call::Drop(address, was) => drops(store, address, was),

@@ -1,10 +1,9 @@
 //! A stop at each call of each file of a store: what a crash leaves are the documents before the
 //! call of the store that was under way, or those after it, and after an answer those after it.
-use crate::adopt_tests::{BOOKS, LAYOUT, NODE, ONE};
+use crate::asserts::is_right;
 use crate::calls::{Call, first_wrong};
 use crate::documents::{EMPTY, LIBRARY, LONGER};
 use std::alloc::Global;
-use std::process::Abort;
 use std::test::Fail;
 use xq_atoms::Want;
 use xq_rows::Put;
@@ -54,6 +53,17 @@ const LONGER_TOO: &[Call] = &[
 const PUT_OTHER: Call = Call::Put("a/1", LIBRARY, Put::Stored);
 
 const PUT_LIBRARY: Call = Call::Put("b", LIBRARY, Put::Stored);
+
+const LAYOUT: &str = "CREATE TABLE layout (edition INTEGER NOT NULL) STRICT";
+
+const NODE: &str =
+    "CREATE TABLE node (address TEXT NOT NULL, pre INTEGER NOT NULL, size INTEGER NOT NULL, level INTEGER NOT NULL, kind INTEGER NOT NULL, name TEXT NOT NULL, value TEXT NOT NULL, PRIMARY KEY (address, pre)) STRICT";
+
+const ONE: &str = "INSERT INTO layout VALUES (1)";
+
+/// The rows of the document of two books, under `b`.
+const BOOKS: &str =
+    "INSERT INTO node VALUES ('b', 0, 7, 0, 0, '', ''), ('b', 1, 6, 1, 1, 'lib', ''), ('b', 2, 2, 2, 1, 'book', ''), ('b', 3, 0, 3, 2, 'id', '1'), ('b', 4, 0, 3, 3, '', 'A'), ('b', 5, 2, 2, 1, 'book', ''), ('b', 6, 0, 3, 2, 'id', '2'), ('b', 7, 0, 3, 3, '', 'B')";
 
 /// The row of an empty document under `a/1`, in the table of edition 1.
 const EMPTY_ROW: &str = "INSERT INTO node VALUES ('a/1', 0, 0, 0, 0, '', '')";
@@ -115,31 +125,22 @@ const RUNS: [Run<'static, Call>; 6] = [
     },
 ];
 
-/// Makes each run, with a file that stops at each of its calls in turn, and checks that none is
-/// answered wrongly or leaves other documents. A log of one page is copied into the database at
+/// The files that stop, and the pages of the log: one of one page is copied into the database at
 /// each commit.
-fn check_stops(rt: &(impl Abort + AllocGlobal), stop: Stop, log_pages: usize) -> Result<(), Fail> {
-    let wrong = wrong_run(rt.alloc(), &RUNS, stop, log_pages)?;
-    assert_eq!(rt; wrong, None);
+const STOPS: [(Stop, usize); 4] = [
+    (Stop::OfLog, 128),
+    (Stop::OfDatabase, 128),
+    (Stop::OfLog, 1),
+    (Stop::OfDatabase, 1),
+];
+
+/// Each run is made with a file that stops at each of its calls in turn: none is answered wrongly
+/// or leaves other documents.
+#[test]
+fn stops(rt: HostRuntime) -> Result<(), Fail> {
+    for (number, (stop, log_pages)) in STOPS.iter().enumerate() {
+        let wrong = wrong_run(rt.alloc(), &RUNS, *stop, *log_pages)?;
+        is_right(&rt, wrong.is_none(), number);
+    }
     Ok(())
-}
-
-#[test]
-fn of_the_log(rt: HostRuntime) -> Result<(), Fail> {
-    check_stops(&rt, Stop::OfLog, 128)
-}
-
-#[test]
-fn of_the_database(rt: HostRuntime) -> Result<(), Fail> {
-    check_stops(&rt, Stop::OfDatabase, 128)
-}
-
-#[test]
-fn of_a_short_log(rt: HostRuntime) -> Result<(), Fail> {
-    check_stops(&rt, Stop::OfLog, 1)
-}
-
-#[test]
-fn of_the_database_under_a_short_log(rt: HostRuntime) -> Result<(), Fail> {
-    check_stops(&rt, Stop::OfDatabase, 1)
 }

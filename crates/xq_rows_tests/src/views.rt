@@ -3,36 +3,26 @@ ghost use Rattle.std.specs.Prelude.{◌≡◌};
 ghost use Rattle.xq_rows.specs.Views.{beginning};
 
 use crate::calls::{Call, first_wrong};
-use crate::documents::Document;
-use crate::loans::{Comments, Look, are_seen, lends_comments, lends_documents};
+use crate::loans::{Look, are_seen};
 use sqlite::Alter;
 use std::alloc::Global;
 use std::marker::Brand;
 use xq_atoms::Want;
 use xq_rows::{Origin, Store, View};
 use xq_samples::readings::{wrong_gift, wrong_loan};
-use xq_samples::scans::{Counts, Scan, read_by, reads_twice_in_two_steps};
-use xq_samples::tables;
+use xq_samples::scans::{Counts, Scan, read_by};
 use xq_sources::{Buffered, RowLender, RowSource};
 
 /// What is done over a view.
 #[derive(Clone, Copy)]
 pub enum Task {
-    /// The tables of what is found in the library, the first document.
-    Tables,
     /// One step.
     Step(Scan),
     /// The rows of the first document are given as copies, by a statement.
     Statement,
-    /// The first row of the first document is lent.
-    Front,
     /// Two documents, an empty one and the library, are given and lent, by the view itself and by a
     /// buffer over it.
     Both,
-    /// These documents are lent.
-    Documents(&'static [Document]),
-    /// The same of documents of comments.
-    Comments(&'static [Comments]),
     /// Names are looked for in documents, by their numbers.
     Names(&'static [(usize, Look)]),
 }
@@ -44,12 +34,6 @@ pub type Done<S> = (Store<S>, Option<Counts>);
 /// What is told where no rows are.
 fn told(is_right: bool) -> Option<Counts> {
     if is_right { Some((0, 0)) } else { None }
-}
-
-/// Whether the tables hold over the library.
-fn tables_hold<L: RowLender>(alloc: Global, lender: &mut L) -> Result<bool, Want> {
-    let wrong = tables::first_wrong(alloc, lender)?;
-    Ok(wrong.is_none() && reads_twice_in_two_steps(alloc, lender)?)
 }
 
 /// How many rows of the first tree are given as copies.
@@ -70,16 +54,9 @@ fn done<S: Alter, O: Origin>(
     task: Task,
 ) -> Result<Option<Counts>, Want> {
     match task {
-        Task::Tables => Ok(told(tables_hold(alloc, view)?)),
         Task::Step(scan) => read_by(alloc, view, scan),
         Task::Statement => Ok(Some((copied(alloc, view)?, 0))),
-        Task::Front => {
-            view.fetch(alloc, 0, 0, 0)?;
-            Ok(told(true))
-        }
         Task::Both => Ok(told(view.addresses().len() == 2 && reads_both(alloc, view)?)),
-        Task::Documents(documents) => Ok(told(lends_documents(alloc, view, documents)?)),
-        Task::Comments(documents) => Ok(told(lends_comments(alloc, view, documents)?)),
         Task::Names(looks) => Ok(told(are_seen(alloc, view, looks)?)),
     }
 }

@@ -4,7 +4,5 @@
 #![tactic(auto)]
 
 pub mod documents;
-pub mod items;
 pub mod readings;
 pub mod scans;
-pub mod tables;

@@ -3,32 +3,18 @@
 use std::process::Abort;
 use xq_server::End;
 
-/// Asserts what holds of the row of a table at a place.
-pub fn is_right(rt: &impl Abort, is_right: bool, place: usize) {
-    assert!(rt; is_right, "row {place}");
-}
-
 /// Asserts that no row of a table is wrong.
-pub fn none_is_wrong(rt: &impl Abort, wrong: Option<usize>) {
-    assert_eq!(rt; wrong, None);
+pub fn none_is_wrong(rt: &impl Abort, wrong: Option<(usize, u64)>, table: usize) {
+    assert_eq!(rt; wrong, None, "table {table}");
 }
 
-/// Asserts that the number is the one that is wanted.
-pub fn is_number(rt: &impl Abort, found: usize, wanted: usize) {
-    assert_eq!(rt; found, wanted);
-}
-
-/// Asserts that a run or a service ended as is wanted.
-pub fn ends_so(rt: &impl Abort, end: End, wanted: End) {
-    assert_eq!(rt; end, wanted);
+/// Asserts that a service ended as is wanted, and that so many of its reader's bytes are left, and
+/// so many flushes succeeded.
+pub fn ends_so(rt: &impl Abort, found: (End, usize, u32), wanted: (End, usize, u32), row: usize) {
+    assert_eq!(rt; found, wanted, "row {row}");
 }
 
 /// Asserts that the bytes are those that are wanted.
 pub fn are_bytes(rt: &impl Abort, found: &[u8], wanted: &[u8]) {
-    assert_eq!(rt; found, wanted);
-}
-
-/// Asserts that the text is the one that is wanted.
-pub fn is_text(rt: &impl Abort, found: &str, wanted: &str) {
     assert_eq!(rt; found, wanted);
 }

@@ -1,23 +1,10 @@
-//! Tests of the server and of the edge of the program: the worked rows of the protocol, long texts,
-//! services by scripted readers and writers, files, stops of the disk, words and ends.
+//! Tests of the server where a fault has to be put in: services by scripted readers and writers,
+//! and stops of the disk. What a request reaches without one runs through the program
+//! (tools/test_rows.py).
 #![tactic(auto)]
 
 #[cfg(test)]
 mod asserts;
-#[cfg(test)]
-mod edge_tests;
-#[cfg(test)]
-mod file_tests;
-#[cfg(test)]
-mod growth_tests;
-#[cfg(test)]
-mod hostile_tests;
-#[cfg(test)]
-mod many_tests;
-#[cfg(test)]
-mod refusal_rows;
-#[cfg(test)]
-mod rows;
 #[cfg(test)]
 mod scripts;
 #[cfg(test)]
@@ -26,5 +13,3 @@ mod servers;
 mod serving_tests;
 #[cfg(test)]
 mod stop_tests;
-#[cfg(test)]
-mod tests;

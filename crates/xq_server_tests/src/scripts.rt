@@ -8,27 +8,12 @@ use std::io::{self, Error, ErrorKind, Read, Write};
 pub struct Source<'a> {
     /// What it has left.
     pub bytes: &'a [u8],
-    /// The most that a read gives.
-    pub piece: usize,
     /// So many reads are interrupted first.
     pub interruptions: u32,
     /// So many more are each time that nine bytes were given: a request for all addresses.
     pub again: u32,
     /// Whether a read after the last byte fails. It answers 0 otherwise.
     pub fails: bool,
-}
-
-impl<'a> Source<'a> {
-    /// A reader that gives all bytes at once, and then ends.
-    pub fn new(bytes: &'a [u8]) -> Source<'a> {
-        Source {
-            bytes,
-            piece: usize::MAX,
-            interruptions: 0,
-            again: 0,
-            fails: false,
-        }
-    }
 }
 
 impl Read for Source<'_> {
@@ -40,7 +25,7 @@ impl Read for Source<'_> {
         if self.bytes.is_empty() && self.fails {
             return Err(Error::from(ErrorKind::Other));
         }
-        let n = self.piece.min(self.bytes.len()).min(buf.len());
+        let n = self.bytes.len().min(buf.len());
         buf[..n].copy_from_slice(&self.bytes[..n]);
         self.bytes = &self.bytes[n..];
         if self.bytes.len() % 9 == 0 {
@@ -67,18 +52,6 @@ pub struct Sink {
 }
 
 impl Sink {
-    /// A writer that takes everything at once.
-    pub fn new(taken: Vec<u8>) -> Sink {
-        Sink {
-            taken,
-            piece: usize::MAX,
-            room: usize::MAX,
-            interruptions: 0,
-            flushes: 0,
-            flush_fails: false,
-        }
-    }
-
     fn interrupted(&mut self) -> bool {
         let interrupted = self.interruptions > 0;
         self.interruptions = self.interruptions.saturating_sub(1);

@@ -1,15 +1,15 @@
-//! Servers over stores in memory and in files. How their stores are dropped is written out, and so
-//! is not proved here again. Their calls are made here, once each and without a clause: who makes
-//! them carries nothing of what they promise, which is compared as the tests run.
+//! Servers over stores. How a store is dropped is written out, and so is not proved here again. Their
+//! calls are made here, once each and without a clause: who makes them carries nothing of what they
+//! promise, which is compared as the tests run.
 
-use sqlite::{Alter, FileFrom, FileStore, Unknown};
+use sqlite::{Alter, FileStore};
 use std::alloc::Global;
 use std::io::{Read, Write};
 use xq_atoms::Want;
 use xq_memory_disk::MemoryDisk;
 use xq_rows::Store;
 use xq_server::{End, Server};
-use xq_stores::{DiskStore, MemoryStore};
+use xq_stores::MemoryStore;
 
 /// A server over a store.
 pub fn server_over<S: Alter + Drop>(alloc: Global, store: Store<S>) -> Server<S> {
@@ -49,53 +49,12 @@ impl MemoryServer {
             server: server_over(alloc, memory.into_store()),
         })
     }
-
-    /// Another server over the same documents.
-    pub fn restarted(self, alloc: Global) -> MemoryServer {
-        let MemoryServer { server } = self;
-        MemoryServer {
-            server: server_over(alloc, store_of(server)),
-        }
-    }
 }
 
 impl Drop for MemoryServer {
     fn drop(self) {
         let MemoryServer { server } = self;
         let _store = MemoryStore {
-            store: store_of(server),
-        };
-    }
-}
-
-/// A server whose documents live in a file.
-pub struct FileServer {
-    pub server: Server<FileStore<FileFrom<Unknown>>>,
-}
-
-impl FileServer {
-    /// The server over the file at a path.
-    pub fn open(rt: &HostRuntime, path: &str) -> Option<FileServer> {
-        let file = DiskStore::open(rt, path)?;
-        Some(FileServer {
-            server: server_over(rt.alloc(), file.into_store()),
-        })
-    }
-
-    /// Closes the file, and says whether its log could be copied into it.
-    pub fn close(self) -> bool {
-        let FileServer { server } = self;
-        let closing = DiskStore {
-            store: store_of(server),
-        };
-        closing.close()
-    }
-}
-
-impl Drop for FileServer {
-    fn drop(self) {
-        let FileServer { server } = self;
-        let _store = DiskStore {
             store: store_of(server),
         };
     }

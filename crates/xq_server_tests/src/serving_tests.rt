@@ -1,89 +1,12 @@
-//! Services by scripted readers and writers: the worked rows in pieces, and each end.
+//! Services by scripted readers and writers: each end, and what is told by then.
 
-use crate::asserts::{are_bytes, ends_so, is_number, is_right};
-use crate::rows::{Group, Row};
+use crate::asserts::{are_bytes, ends_so};
 use crate::scripts::{Sink, Source};
-use crate::servers::{MemoryServer, run_bytes, serve_frames};
-use crate::tests::{INPUTS, frame, is_answered};
+use crate::servers::{MemoryServer, serve_frames};
+use std::alloc::Global;
 use std::process::Abort;
 use std::test::Fail;
 use xq_server::End;
-
-/// Serves the input in pieces, and runs it, each on its server, and compares the replies and
-/// ends.
-fn serve_as_run(
-    rt: &(impl Abort + AllocGlobal),
-    (served, ran): (&mut MemoryServer, &mut MemoryServer),
-    input: &[u8],
-    piece: usize,
-) {
-    let mut replies = Vec::new(rt.alloc());
-    let end = run_bytes(&mut ran.server, input, &mut replies);
-    let mut source = Source::new(input);
-    source.piece = piece;
-    let mut sink = Sink::new(Vec::new(rt.alloc()));
-    sink.piece = piece;
-    let served_end = serve_frames(&mut served.server, &mut source, &mut sink, u64::MAX);
-    ends_so(rt, served_end, end);
-    are_bytes(rt, sink.taken.as_slice(), replies.as_slice());
-}
-
-/// The same for each of the requests.
-fn serve_rows_as_run(
-    rt: &(impl Abort + AllocGlobal),
-    (served, ran): (&mut MemoryServer, &mut MemoryServer),
-    rows: &[Row],
-    piece: usize,
-) -> Result<(), Fail> {
-    for row in rows {
-        let (kind, body) = row.request();
-        let input = frame(rt.alloc(), 5, kind, body)?;
-        serve_as_run(rt, (&mut *served, &mut *ran), &input, piece);
-    }
-    Ok(())
-}
-
-/// The requests that are served in pieces.
-const SERVED: [Group; 5] = [
-    Group::First,
-    Group::Path,
-    Group::Node,
-    Group::Dropping,
-    Group::Last,
-];
-
-/// The same for each group of requests, and for whole inputs after them.
-fn serve_all_as_run(
-    rt: &(impl Abort + AllocGlobal),
-    (served, ran): (&mut MemoryServer, &mut MemoryServer),
-    piece: usize,
-) -> Result<(), Fail> {
-    for group in &SERVED {
-        serve_rows_as_run(rt, (&mut *served, &mut *ran), group.rows(), piece)?;
-    }
-    for (input, _, _) in &INPUTS {
-        serve_as_run(rt, (&mut *served, &mut *ran), input, piece);
-    }
-    Ok(())
-}
-
-/// The same on two new servers.
-fn serve_pieces_as_run(rt: &(impl Abort + AllocGlobal), piece: usize) -> Result<(), Fail> {
-    let mut served = MemoryServer::new(rt.alloc())?;
-    let mut ran = MemoryServer::new(rt.alloc())?;
-    serve_all_as_run(rt, (&mut served, &mut ran), piece)
-}
-
-const PIECES: [usize; 4] = [1, 2, 3, 7];
-
-/// Bytes in pieces of 1, 2, 3 and 7 are served as a run answers them.
-#[test]
-fn in_pieces(rt: HostRuntime) -> Result<(), Fail> {
-    for piece in &PIECES {
-        serve_pieces_as_run(&rt, *piece)?;
-    }
-    Ok(())
-}
 
 /// Three requests for all addresses.
 const LISTS: &[u8] =
@@ -101,8 +24,9 @@ type Reads = (usize, u32, u32, bool);
 /// interruptions; whether each flush fails.
 type Writes = (usize, usize, u32, bool);
 
-/// At most so many frames are answered, the end, and how many bytes of the replies are written.
-type Outcome = (u64, End, usize);
+/// At most so many frames are answered, the end, how many bytes of the replies are written, how
+/// many the reader has left, and how many flushes succeeded.
+type Outcome = (u64, End, usize, usize, u32);
 
 type Service = (Reads, Writes, Outcome);
 
@@ -113,19 +37,31 @@ const ANY: Writes = (usize::MAX, usize::MAX, 0, false);
 const MOST: u64 = 1_000_000;
 
 const BY_THE_READER: [Service; 6] = [
-    ((18, 0, 0, true), ANY, (MOST, End::ReadFault, 22)),
-    ((20, 0, 0, true), ANY, (MOST, End::ReadFault, 22)),
-    ((20, 0, 0, false), ANY, (MOST, End::Cut, 22)),
-    ((24, 0, 0, false), ANY, (MOST, End::Cut, 22)),
-    ((27, 999, 0, false), ANY, (MOST, End::Finished, 33)),
-    ((27, 1000, 0, false), ANY, (MOST, End::ReadFault, 0)),
+    ((18, 0, 0, true), ANY, (MOST, End::ReadFault, 22, 0, 2)),
+    ((20, 0, 0, true), ANY, (MOST, End::ReadFault, 22, 0, 2)),
+    ((20, 0, 0, false), ANY, (MOST, End::Cut, 22, 0, 2)),
+    ((24, 0, 0, false), ANY, (MOST, End::Cut, 22, 0, 2)),
+    ((27, 999, 0, false), ANY, (MOST, End::Finished, 33, 0, 3)),
+    ((27, 1000, 0, false), ANY, (MOST, End::ReadFault, 0, 27, 0)),
 ];
 
 const BY_THE_WRITER: [Service; 4] = [
-    (ALL, (1, usize::MAX, 0, false), (MOST, End::Finished, 33)),
-    (ALL, (usize::MAX, 15, 0, false), (MOST, End::WriteFault, 15)),
-    (ALL, (4, 22, 0, false), (MOST, End::WriteFault, 22)),
-    (ALL, (0, usize::MAX, 0, false), (MOST, End::WriteFault, 0)),
+    (
+        ALL,
+        (1, usize::MAX, 0, false),
+        (MOST, End::Finished, 33, 0, 3),
+    ),
+    (
+        ALL,
+        (usize::MAX, 15, 0, false),
+        (MOST, End::WriteFault, 15, 9, 1),
+    ),
+    (ALL, (4, 22, 0, false), (MOST, End::WriteFault, 22, 0, 2)),
+    (
+        ALL,
+        (0, usize::MAX, 0, false),
+        (MOST, End::WriteFault, 0, 18, 0),
+    ),
 ];
 
 /// The interruptions of one frame are counted together: its reads, its writes and its flush.
@@ -133,66 +69,130 @@ const INTERRUPTED: [Service; 4] = [
     (
         (27, 500, 0, false),
         (usize::MAX, usize::MAX, 499, false),
-        (MOST, End::Finished, 33),
+        (MOST, End::Finished, 33, 0, 3),
     ),
     (
         (27, 500, 0, false),
         (usize::MAX, usize::MAX, 500, false),
-        (MOST, End::WriteFault, 0),
+        (MOST, End::WriteFault, 0, 18, 0),
     ),
     (
         ALL,
         (usize::MAX, usize::MAX, 999, false),
-        (MOST, End::Finished, 33),
+        (MOST, End::Finished, 33, 0, 3),
     ),
     (
         ALL,
         (usize::MAX, usize::MAX, 1000, false),
-        (MOST, End::WriteFault, 0),
+        (MOST, End::WriteFault, 0, 18, 0),
     ),
 ];
 
 /// Each frame and its reply has a count of its own: 600 interruptions before each of three frames
 /// are borne, and with 400 of the first reply they are one too many.
 const COUNTED_ANEW: [Service; 3] = [
-    ((27, 600, 600, false), ANY, (MOST, End::Finished, 33)),
+    ((27, 600, 600, false), ANY, (MOST, End::Finished, 33, 0, 3)),
     (
         (27, 600, 600, false),
         (usize::MAX, usize::MAX, 399, false),
-        (MOST, End::Finished, 33),
+        (MOST, End::Finished, 33, 0, 3),
     ),
     (
         (27, 600, 600, false),
         (usize::MAX, usize::MAX, 400, false),
-        (MOST, End::WriteFault, 0),
+        (MOST, End::WriteFault, 0, 18, 0),
     ),
 ];
 
-/// Each reply is flushed.
-const FLUSHED: Service = (ALL, ANY, (MOST, End::Finished, 33));
+/// Each reply is flushed, and a flush that fails ends the service.
+const FLUSHED: [Service; 2] = [
+    (ALL, ANY, (MOST, End::Finished, 33, 0, 3)),
+    (
+        ALL,
+        (usize::MAX, usize::MAX, 0, true),
+        (MOST, End::WriteFault, 11, 18, 0),
+    ),
+];
 
-/// A flush that fails ends the service.
-const STUCK: Service = (
-    ALL,
-    (usize::MAX, usize::MAX, 0, true),
-    (MOST, End::WriteFault, 11),
-);
+/// A reader that fails after its last byte.
+const FAILING: Reads = (27, 0, 0, true);
 
-/// Serves at most so many frames over an empty map, and checks how that ends, and that this many
-/// bytes of the replies were written.
-fn check_replies(
+/// The bound on frames ends the service before the next is read.
+const BOUNDED: [Service; 4] = [
+    (FAILING, ANY, (0, End::Bound, 0, 27, 0)),
+    (FAILING, ANY, (1, End::Bound, 11, 18, 1)),
+    (FAILING, ANY, (2, End::Bound, 22, 9, 2)),
+    (FAILING, ANY, (3, End::Bound, 33, 0, 3)),
+];
+
+/// A length over the limit, and more.
+const TOO_LONG: &[u8] = b"\x00\x10\x01\x01rest";
+
+const LONG_REPLY: &[u8] = b"\x00\x00\x00\x0e\x00\x00\x00\x00\x01prof:LONG";
+
+/// A length over the limit is answered, and nothing after it is read; its reply may find a fault.
+const LONG: [Service; 2] = [
+    ((8, 0, 0, false), ANY, (10, End::TooLong, 18, 4, 1)),
+    (
+        (8, 0, 0, false),
+        (usize::MAX, 17, 0, false),
+        (10, End::WriteFault, 17, 4, 0),
+    ),
+];
+
+/// What is sent, the replies to all of it, and services that get it.
+type Table = (&'static [u8], &'static [u8], &'static [Service]);
+
+const TABLES: [Table; 7] = [
+    (LISTS, NOTHINGS, &BY_THE_READER),
+    (LISTS, NOTHINGS, &BY_THE_WRITER),
+    (LISTS, NOTHINGS, &INTERRUPTED),
+    (LISTS, NOTHINGS, &COUNTED_ANEW),
+    (LISTS, NOTHINGS, &FLUSHED),
+    (LISTS, NOTHINGS, &BOUNDED),
+    (TOO_LONG, LONG_REPLY, &LONG),
+];
+
+/// The reader of a service.
+fn source_of(sent: &'static [u8], (given, before, between, fails): Reads) -> Source<'static> {
+    Source {
+        bytes: sent.get(..given).unwrap_or(sent),
+        interruptions: before,
+        again: between,
+        fails,
+    }
+}
+
+/// Its writer.
+fn sink_of(alloc: Global, (piece, room, held, flush_fails): Writes) -> Sink {
+    Sink {
+        taken: Vec::new(alloc),
+        piece,
+        room,
+        interruptions: held,
+        flushes: 0,
+        flush_fails,
+    }
+}
+
+/// Serves what is sent over an empty map, and checks how that ends, and what is written of the
+/// replies.
+fn check_service(
     rt: &(impl Abort + AllocGlobal),
-    (source, sink): (&mut Source<'_>, &mut Sink),
-    (most, end, written): Outcome,
-    replies: &[u8],
+    (sent, replies): (&'static [u8], &'static [u8]),
+    (reads, writes, (most, end, written, left, flushes)): Service,
+    row: usize,
 ) -> Result<(), Fail> {
     let mut memory = MemoryServer::new(rt.alloc())?;
+    let mut source = source_of(sent, reads);
+    let mut sink = sink_of(rt.alloc(), writes);
+    let found = serve_frames(&mut memory.server, &mut source, &mut sink, most);
     ends_so(
         rt,
-        serve_frames(&mut memory.server, source, sink, most),
-        end,
+        (found, source.bytes.len(), sink.flushes),
+        (end, left, flushes),
+        row,
     );
-    is_number(rt, sink.taken.len(), written);
     are_bytes(
         rt,
         sink.taken.as_slice(),
@@ -201,120 +201,21 @@ fn check_replies(
     Ok(())
 }
 
-/// The same where the requests are for all addresses. Gives how many bytes the reader has left, and
-/// how many flushes succeeded.
-fn check_service(
+/// The same for each of the services of a table.
+fn check_table(
     rt: &(impl Abort + AllocGlobal),
-    ((given, before, between, fails), (piece, room, held, flush_fails), outcome): Service,
-) -> Result<(usize, u32), Fail> {
-    let mut source = Source {
-        bytes: LISTS.get(..given).unwrap_or(LISTS),
-        piece: usize::MAX,
-        interruptions: before,
-        again: between,
-        fails,
-    };
-    let mut sink = Sink {
-        taken: Vec::new(rt.alloc()),
-        piece,
-        room,
-        interruptions: held,
-        flushes: 0,
-        flush_fails,
-    };
-    check_replies(rt, (&mut source, &mut sink), outcome, NOTHINGS)?;
-    Ok((source.bytes.len(), sink.flushes))
-}
-
-/// The same for each of the services.
-fn check_services(rt: &(impl Abort + AllocGlobal), services: &[Service]) -> Result<(), Fail> {
-    for service in services {
-        check_service(rt, *service)?;
-    }
-    Ok(())
-}
-
-#[test]
-fn ends_by_the_reader(rt: HostRuntime) -> Result<(), Fail> {
-    check_services(&rt, &BY_THE_READER)
-}
-
-#[test]
-fn ends_by_the_writer(rt: HostRuntime) -> Result<(), Fail> {
-    check_services(&rt, &BY_THE_WRITER)
-}
-
-#[test]
-fn interruptions(rt: HostRuntime) -> Result<(), Fail> {
-    check_services(&rt, &INTERRUPTED)
-}
-
-#[test]
-fn counts_anew_for_each_frame(rt: HostRuntime) -> Result<(), Fail> {
-    check_services(&rt, &COUNTED_ANEW)
-}
-
-#[test]
-fn flushes(rt: HostRuntime) -> Result<(), Fail> {
-    let (_left, flushed) = check_service(&rt, FLUSHED)?;
-    is_number(&rt, flushed as usize, 3);
-    check_services(&rt, &[STUCK])
-}
-
-/// Bounds on frames, how many bytes of the replies are written, and how many the reader has left.
-const BOUNDS: [(u64, usize, usize); 4] = [(0, 0, 27), (1, 11, 18), (2, 22, 9), (3, 33, 0)];
-
-/// The bound on frames ends the service before the next is read.
-#[test]
-fn bounds(rt: HostRuntime) -> Result<(), Fail> {
-    for (bound, written, wanted) in &BOUNDS {
-        let outcome = (*bound, End::Bound, *written);
-        let (left, _flushed) = check_service(&rt, ((27, 0, 0, true), ANY, outcome))?;
-        is_number(&rt, left, *wanted);
-    }
-    Ok(())
-}
-
-/// Stores of `a` and of `c`.
-const STORES: &[u8] =
-    b"\x00\x00\x00\x12\x00\x00\x00\x01S\x01adocument {}\x00\x00\x00\x12\x00\x00\x00\x02S\x01cdocument {}";
-
-/// After a fault of the writer the frame at hand was carried out, and none after it.
-#[test]
-fn carries_out_what_it_cannot_tell(rt: HostRuntime) -> Result<(), Fail> {
-    let mut memory = MemoryServer::new(rt.alloc())?;
-    let mut sink = Sink::new(Vec::new(rt.alloc()));
-    sink.room = 3;
-    let end = serve_frames(&mut memory.server, &mut Source::new(STORES), &mut sink, 10);
-    ends_so(&rt, end, End::WriteFault);
-    let addresses: (u8, &[u8]) = (0, b"\"a\"");
-    let lists_a = is_answered(rt.alloc(), &mut memory.server, 1, (b'L', b""), addresses)?;
-    is_right(&rt, lists_a, 0);
-    Ok(())
-}
-
-/// How much a writer takes, the end, and how many bytes are written.
-const ROOMS: [(usize, End, usize); 2] = [(usize::MAX, End::TooLong, 18), (17, End::WriteFault, 17)];
-
-/// Serves a frame that is too long to a writer that takes so much.
-fn check_too_long(
-    rt: &(impl Abort + AllocGlobal),
-    (room, end, written): (usize, End, usize),
+    (sent, replies, services): Table,
 ) -> Result<(), Fail> {
-    let mut source = Source::new(b"\x00\x10\x01\x01rest");
-    let mut sink = Sink::new(Vec::new(rt.alloc()));
-    sink.room = room;
-    let reply = b"\x00\x00\x00\x0e\x00\x00\x00\x00\x01prof:LONG";
-    check_replies(rt, (&mut source, &mut sink), (10, end, written), reply)?;
-    are_bytes(rt, source.bytes, b"rest");
+    for (row, service) in services.iter().enumerate() {
+        check_service(rt, (sent, replies), *service, row)?;
+    }
     Ok(())
 }
 
-/// A length over the limit is answered, and nothing after it is read; its reply may find a fault.
 #[test]
-fn too_long(rt: HostRuntime) -> Result<(), Fail> {
-    for row in &ROOMS {
-        check_too_long(&rt, *row)?;
+fn services(rt: HostRuntime) -> Result<(), Fail> {
+    for table in &TABLES {
+        check_table(&rt, *table)?;
     }
     Ok(())
 }

@@ -2,28 +2,53 @@
 //! its own or wants the store, and what a crash leaves are the documents before the frame or after
 //! it; after its own reply those after it.
 
-use crate::rows::{DOC_B, LIBRARY, PUT_B, Row};
+use crate::asserts::none_is_wrong;
 use crate::servers::{run_bytes, server_over, store_of};
-use crate::tests::{frame, is_reply};
 use sqlite::Alter;
-use std::alloc::Global;
-use std::process::Abort;
+use std::alloc::{AllocError, Global};
 use std::test::Fail;
 use xq_atoms::Want;
 use xq_rows::Store;
 use xq_server::{End, Server};
 use xq_stops::{Run, Stop, StoppingStore, Task, wrong_run};
 
+/// A request, its kind and its body, and the text of its reply, which has status 0.
+#[derive(Clone, Copy)]
+pub struct Row {
+    kind: u8,
+    body: &'static [u8],
+    reply: &'static [u8],
+}
+
+/// The head of a frame or of a reply: the length, the tag 1, and the kind or the status.
+fn head(kind: u8, text: &[u8]) -> [u8; 9] {
+    let [_, _, _, _, a, b, c, d] = (text.len() as u64 + 5).to_be_bytes();
+    [a, b, c, d, 0, 0, 0, 1, kind]
+}
+
+/// The frame of a request.
+fn frame(alloc: Global, kind: u8, body: &[u8]) -> Result<Vec<u8>, AllocError> {
+    let mut bytes = Vec::new(alloc);
+    bytes.extend_from_slice(&head(kind, body))?;
+    bytes.extend_from_slice(body)?;
+    Ok(bytes)
+}
+
+/// Whether the bytes are one reply with this status and text.
+fn is_reply(bytes: &[u8], (status, text): (u8, &[u8])) -> bool {
+    let head = head(status, text);
+    bytes.get(..9) == Some(head.as_slice()) && bytes.get(9..) == Some(text)
+}
+
 /// Sends a request, and says whether the reply is its own. One that wants the store is told as that
 /// want.
 fn send<S: Alter + Drop>(alloc: Global, server: &mut Server<S>, row: &Row) -> Result<bool, Want> {
     let mut out = Vec::new(alloc);
-    let (kind, body) = row.request();
-    let end = run_bytes(server, &frame(alloc, 1, kind, body)?, &mut out);
-    if is_reply(&out, 1, (2, b"store")) {
+    let end = run_bytes(server, &frame(alloc, row.kind, row.body)?, &mut out);
+    if is_reply(&out, (2, b"store")) {
         return Err(Want::Store);
     }
-    Ok(end == End::Finished && is_reply(&out, 1, row.reply()))
+    Ok(end == End::Finished && is_reply(&out, (0, row.reply)))
 }
 
 /// Sends the requests in turn, up to the first whose reply is not its own.
@@ -61,34 +86,81 @@ impl Task for Row {
     }
 }
 
+const LIBRARY: &[u8] =
+    b"document {element lib {element book {attribute id {\"1\"}, text {\"A\"}}, element book {attribute id {\"2\"}, text {\"B\"}}}}";
+
+/// The store of a library of two books under `b`.
+const PUT_B: &[u8] =
+    b"\x01bdocument {element lib {element book {attribute id {\"1\"}, text {\"A\"}}, element book {attribute id {\"2\"}, text {\"B\"}}}}";
+
 const NOTE: &[u8] = b"document {element note {text {\"kept\"}}}";
 
 /// The store of a document that no request after it names.
-const PUT_NOTE: Row = Row::Answers(
-    b'S',
-    b"\x01adocument {element note {text {\"kept\"}}}",
-    b"stored",
-);
+const PUT_NOTE: Row = Row {
+    kind: b'S',
+    body: b"\x01adocument {element note {text {\"kept\"}}}",
+    reply: b"stored",
+};
 
-const PUT_LIBRARY: Row = Row::Answers(b'S', PUT_B, b"stored");
+const PUT_LIBRARY: Row = Row {
+    kind: b'S',
+    body: PUT_B,
+    reply: b"stored",
+};
 
-const NOTE_IS_THERE: Row = Row::Answers(b'Q', b"doc(\"a\")", NOTE);
+const NOTE_IS_THERE: Row = Row {
+    kind: b'Q',
+    body: b"doc(\"a\")",
+    reply: NOTE,
+};
 
 /// Both addresses.
-const BOTH: Row = Row::Answers(b'L', b"", b"\"a\", \"b\"");
+const BOTH: Row = Row {
+    kind: b'L',
+    body: b"",
+    reply: b"\"a\", \"b\"",
+};
+
+/// The address of the note alone.
+const NOTE_ALONE: Row = Row {
+    kind: b'L',
+    body: b"",
+    reply: b"\"a\"",
+};
+
+const LIBRARY_IS_THERE: Row = Row {
+    kind: b'Q',
+    body: b"doc(\"b\")",
+    reply: LIBRARY,
+};
+
+const EMPTY_IS_THERE: Row = Row {
+    kind: b'Q',
+    body: b"doc(\"b\")",
+    reply: b"document {}",
+};
+
+/// The library is replaced by an empty document.
+const PUT_EMPTY: Row = Row {
+    kind: b'S',
+    body: b"\x01bdocument {}",
+    reply: b"replaced",
+};
+
+const DROP_LIBRARY: Row = Row {
+    kind: b'D',
+    body: b"b",
+    reply: b"dropped",
+};
 
 /// The note alone.
-const ALONE: &[Row] = &[NOTE_IS_THERE, Row::Answers(b'L', b"", b"\"a\"")];
+const ALONE: &[Row] = &[NOTE_IS_THERE, NOTE_ALONE];
 
 /// The note, and the library under `b`.
-const LIBRARY_TOO: &[Row] = &[NOTE_IS_THERE, BOTH, Row::Answers(b'Q', DOC_B, LIBRARY)];
+const LIBRARY_TOO: &[Row] = &[NOTE_IS_THERE, BOTH, LIBRARY_IS_THERE];
 
 /// The note, and an empty document under `b`.
-const EMPTY_TOO: &[Row] = &[
-    NOTE_IS_THERE,
-    BOTH,
-    Row::Answers(b'Q', DOC_B, b"document {}"),
-];
+const EMPTY_TOO: &[Row] = &[NOTE_IS_THERE, BOTH, EMPTY_IS_THERE];
 
 /// A first store, a replacement and a drop.
 const RUNS: [Run<'static, Row>; 3] = [
@@ -102,44 +174,35 @@ const RUNS: [Run<'static, Row>; 3] = [
     Run {
         made: &[],
         first: &[PUT_NOTE, PUT_LIBRARY],
-        asked: &[Row::Answers(b'S', b"\x01bdocument {}", b"replaced")],
+        asked: &[PUT_EMPTY],
         before: LIBRARY_TOO,
         after: EMPTY_TOO,
     },
     Run {
         made: &[],
         first: &[PUT_NOTE, PUT_LIBRARY],
-        asked: &[Row::Answers(b'D', b"b", b"dropped")],
+        asked: &[DROP_LIBRARY],
         before: LIBRARY_TOO,
         after: ALONE,
     },
 ];
 
-/// Makes each run, with a file that stops at each of its calls in turn, and checks that none is
-/// answered wrongly or leaves other documents. A log of one page is copied into the database at
+/// The files that stop, and the pages of the log: one of one page is copied into the database at
 /// each commit.
-fn check_stops(rt: &(impl Abort + AllocGlobal), stop: Stop, log_pages: usize) -> Result<(), Fail> {
-    let wrong = wrong_run(rt.alloc(), &RUNS, stop, log_pages)?;
-    assert_eq!(rt; wrong, None);
+const STOPS: [(Stop, usize); 4] = [
+    (Stop::OfLog, 128),
+    (Stop::OfDatabase, 128),
+    (Stop::OfLog, 1),
+    (Stop::OfDatabase, 1),
+];
+
+/// Each run is made with a file that stops at each of its calls in turn: none is answered wrongly
+/// or leaves other documents.
+#[test]
+fn stops(rt: HostRuntime) -> Result<(), Fail> {
+    for (number, (stop, log_pages)) in STOPS.iter().enumerate() {
+        let wrong = wrong_run(rt.alloc(), &RUNS, *stop, *log_pages)?;
+        none_is_wrong(&rt, wrong, number);
+    }
     Ok(())
-}
-
-#[test]
-fn of_the_log(rt: HostRuntime) -> Result<(), Fail> {
-    check_stops(&rt, Stop::OfLog, 128)
-}
-
-#[test]
-fn of_the_database(rt: HostRuntime) -> Result<(), Fail> {
-    check_stops(&rt, Stop::OfDatabase, 128)
-}
-
-#[test]
-fn of_a_short_log(rt: HostRuntime) -> Result<(), Fail> {
-    check_stops(&rt, Stop::OfLog, 1)
-}
-
-#[test]
-fn of_the_database_under_a_short_log(rt: HostRuntime) -> Result<(), Fail> {
-    check_stops(&rt, Stop::OfDatabase, 1)
 }

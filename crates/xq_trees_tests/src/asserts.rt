@@ -11,8 +11,3 @@ pub fn holds(rt: &impl Abort, is_right: bool, place: usize) {
 pub fn none_is_wrong(rt: &impl Abort, wrong: Option<usize>) {
     assert_eq!(rt; wrong, None);
 }
-
-/// Asserts that the text is the one that is wanted.
-pub fn is_text(rt: &impl Abort, found: &str, wanted: &str) {
-    assert_eq!(rt; found, wanted);
-}

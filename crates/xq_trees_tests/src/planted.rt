@@ -1,19 +1,12 @@
-//! The trees of a source and those that are constructed after them, read through each trait; packed
-//! rows as they are lent, and the places of elements by their names and of attributes by their
-//! values.
+//! The trees of a source and those that are constructed after them, read through each trait.
 
 use crate::asserts::{holds, none_is_wrong};
 use std::alloc::Global;
-use std::collections::HashMap;
 use xq_atoms::Want;
-use xq_packed::PackedRows;
 use xq_packed_trees::PackedTree;
 use xq_regions::{Item, Items, Kind, Node};
-use xq_samples::documents::{Row, are_rows, held, rows_of, tree_of};
-use xq_sources::{
-    Buffered, Fragments, Growing, LentRows, Names, RowLender, RowSource, Trees, Values, find_named,
-    find_values,
-};
+use xq_samples::documents::{Row, are_rows, held, tree_of};
+use xq_sources::{Buffered, Fragments, Growing, LentRows, RowLender, RowSource, Trees};
 
 /// An element of the source, with a text.
 const STORED: [Row; 2] = [
@@ -263,106 +256,6 @@ fn lends_both<T: Growing>(alloc: Global, trees: &mut T) -> Result<bool, Want> {
     Ok(are_lent && is_refused && counts == (4, 2))
 }
 
-#[test]
-fn lenders_lend_both_kinds(rt: HostRuntime) -> Result<(), Want> {
-    let source = Buffered::new(rt.alloc(), stored(rt.alloc())?);
-    let mut trees = Trees::new(rt.alloc(), source);
-    holds(&rt, lends_both(rt.alloc(), &mut trees)?, 0);
-    Ok(())
-}
-
-/// Names that are looked for, of which one is an element's.
-const SOUGHT: [&str; 5] = ["stored", "stored", "A", "", "store"];
-
-/// Looks for the names.
-fn find_all_named(alloc: Global, names: &mut Names, rows: &LentRows<'_>) {
-    for name in &SOUGHT {
-        find_named(alloc, names, rows, name);
-    }
-}
-
-/// Whether the places of the element are kept, and no others.
-fn are_found(names: &Names) -> bool {
-    names.len() == 1
-        && matches!(names.get("stored"), Some(places) if places.as_slice() == [0].as_slice())
-}
-
-/// Places are kept of names that were looked for and that elements have, and of no others.
-#[test]
-fn names_are_found(rt: HostRuntime) -> Result<(), Want> {
-    let mut names: Names = HashMap::new(rt.alloc());
-    let rows = rows_of(rt.alloc(), &STORED)?;
-    find_all_named(rt.alloc(), &mut names, &LentRows::new(&rows));
-    holds(&rt, are_found(&names), 0);
-    Ok(())
-}
-
-/// An element with attributes, and another with some of the same values.
-const VALUED: [Row; 8] = [
-    (0, 7, 0, Kind::Element, "id", "x"),
-    (1, 0, 1, Kind::Attribute, "id", "x"),
-    (2, 0, 1, Kind::Attribute, "of", "b"),
-    (3, 1, 1, Kind::Element, "id", ""),
-    (4, 0, 2, Kind::Attribute, "id", "b"),
-    (5, 1, 1, Kind::Element, "id", ""),
-    (6, 0, 2, Kind::Attribute, "id", "x"),
-    (7, 0, 1, Kind::Text, "", "x"),
-];
-
-/// Names and values, and the places of the attributes that have both, where the name is kept.
-const PLACES: [(&str, &str, Option<&[u32]>); 7] = [
-    ("id", "x", Some(&[1, 6])),
-    ("id", "b", Some(&[4])),
-    ("id", "", Some(&[])),
-    ("id", "xx", Some(&[])),
-    ("of", "b", Some(&[2])),
-    ("of", "x", Some(&[])),
-    ("no", "x", None),
-];
-
-/// Packed rows.
-fn packed(alloc: Global, rows: &[Row]) -> Result<PackedRows, Want> {
-    let mut packed = PackedRows::new(alloc);
-    packed.extend(&rows_of(alloc, rows)?)?;
-    Ok(packed)
-}
-
-/// Names that are looked for, of which two are those of attributes.
-const SOUGHT_OF_VALUES: [&str; 6] = ["id", "id", "of", "no", "", "x"];
-
-/// Looks for the names of values.
-fn find_all_values(alloc: Global, values: &mut Values, rows: &PackedRows) {
-    for name in &SOUGHT_OF_VALUES {
-        find_values(alloc, values, rows, name);
-    }
-}
-
-/// Whether the places of the name and the value are these, where the name is kept.
-fn are_told(
-    values: &Values,
-    rows: &PackedRows,
-    (name, value, wanted): (&str, &str, Option<&[u32]>),
-) -> bool {
-    match (values.get(name), wanted) {
-        (Some(places), Some(wanted)) => places.with_value(rows, value) == wanted,
-        (None, None) => true,
-        _ => false,
-    }
-}
-
-/// Places are kept of names that were looked for and that attributes have, and of no others.
-#[test]
-fn values_are_found(rt: HostRuntime) -> Result<(), Want> {
-    let mut values: Values = HashMap::new(rt.alloc());
-    let rows = packed(rt.alloc(), &VALUED)?;
-    find_all_values(rt.alloc(), &mut values, &rows);
-    holds(&rt, values.len() == 2, 0);
-    for (place, row) in PLACES.iter().enumerate() {
-        holds(&rt, are_told(&values, &rows, *row), place);
-    }
-    Ok(())
-}
-
 /// Trees over a source without places tell none, of the source's trees or of those that are
 /// constructed.
 fn tells_none<T: Growing>(alloc: Global, trees: &mut T) -> bool {
@@ -375,34 +268,12 @@ fn tells_none<T: Growing>(alloc: Global, trees: &mut T) -> bool {
     true
 }
 
+/// Trees over a buffer lend both kinds, and tell no places of values.
 #[test]
-fn trees_tell_no_values(rt: HostRuntime) -> Result<(), Want> {
+fn lenders_lend_both_kinds(rt: HostRuntime) -> Result<(), Want> {
     let source = Buffered::new(rt.alloc(), stored(rt.alloc())?);
     let mut trees = Trees::new(rt.alloc(), source);
-    construct(rt.alloc(), &mut trees)?;
-    holds(&rt, tells_none(rt.alloc(), &mut trees), 0);
-    Ok(())
-}
-
-/// Packed rows from one place to before another, and the rows that are lent of them.
-const PARTS: [(usize, usize, &[Row]); 3] = [
-    (0, 9, &STORED),
-    (1, 2, &[(1, 0, 1, Kind::Text, "", "A")]),
-    (2, 1, &[]),
-];
-
-/// Whether these rows are lent, and no row after them.
-fn are_lent(rows: &PackedRows, (low, high, wanted): (usize, usize, &[Row])) -> bool {
-    let lent = LentRows::packed(rows, low, high);
-    are_rows(&lent, wanted) && lent.get(wanted.len()).is_none()
-}
-
-/// Packed rows are lent as the rows that they were packed from, with their places among all.
-#[test]
-fn packed_rows_are_lent(rt: HostRuntime) -> Result<(), Want> {
-    let rows = packed(rt.alloc(), &STORED)?;
-    for (place, row) in PARTS.iter().enumerate() {
-        holds(&rt, are_lent(&rows, *row), place);
-    }
+    holds(&rt, lends_both(rt.alloc(), &mut trees)?, 0);
+    holds(&rt, tells_none(rt.alloc(), &mut trees), 1);
     Ok(())
 }

@@ -1,52 +1,15 @@
-//! Views one after another over each kind of store: what is lent is what the store holds then,
-//! also where its tables were made in another order, and the places of names are those of its
-//! elements.
+//! Views one after another: what they give and lend of two documents, and the places of names and
+//! of values that they tell, which are those of what the store holds then.
 
-use crate::adopt_tests::ORDERS;
 use crate::asserts::none_is_wrong;
 use crate::calls::Call;
 use crate::documents::Document::Long;
-use crate::documents::{EMPTY, LIBRARY, RENUMBERED, TURNED};
+use crate::documents::{EMPTY, GREAT, LIBRARY, RENUMBERED, TURNED};
 use crate::loans::Look;
-use crate::stores::{adopted, in_memory, made, on_disks};
+use crate::stores::in_memory;
 use crate::views::{Step, Task, wrong_step};
-use std::test::Fail;
 use xq_atoms::Want;
 use xq_rows::Put;
-
-const STEPS: [Step; 9] = [
-    (&[], Task::Documents(&[])),
-    (
-        &[Call::Put("b", LIBRARY, Put::Stored)],
-        Task::Documents(&[LIBRARY]),
-    ),
-    (&[], Task::Documents(&[LIBRARY])),
-    (
-        &[
-            Call::List(&["b"]),
-            Call::Load("b", Some(LIBRARY)),
-            Call::Load("c", None),
-        ],
-        Task::Documents(&[LIBRARY]),
-    ),
-    (
-        &[Call::Put("b", EMPTY, Put::Replaced)],
-        Task::Documents(&[EMPTY]),
-    ),
-    (
-        &[Call::Put("B", LIBRARY, Put::Stored)],
-        Task::Documents(&[LIBRARY, EMPTY]),
-    ),
-    (
-        &[Call::Drop("c", false)],
-        Task::Documents(&[LIBRARY, EMPTY]),
-    ),
-    (&[Call::Drop("b", true)], Task::Documents(&[LIBRARY])),
-    (
-        &[Call::Drop("B", true), Call::List(&[])],
-        Task::Documents(&[]),
-    ),
-];
 
 /// Two documents are stored, and the one that was stored last stands first. What a view of both
 /// gives back is the store with both, which takes documents again.
@@ -65,14 +28,8 @@ const BOTH: [Step; 2] = [
             Call::Put("b", EMPTY, Put::Replaced),
             Call::Load("b", Some(EMPTY)),
         ],
-        Task::Documents(&[EMPTY, EMPTY]),
+        Task::Names(&[]),
     ),
-];
-
-/// The tables hold over a view whose rows are read meanwhile, and over the next, which reads none.
-const TABLES: [Step; 2] = [
-    (&[Call::Put("b", LIBRARY, Put::Stored)], Task::Tables),
-    (&[], Task::Tables),
 ];
 
 /// The places of a name are told once it was looked for among all rows, where there are some: also
@@ -170,10 +127,23 @@ const VALUES: [Step; 4] = [
     ),
 ];
 
+/// Of the great library more is there than is read at once.
+const PART: [Step; 1] = [(
+    &[Call::Put("a", GREAT, Put::Stored)],
+    Task::Names(&[
+        (0, Look::Begin),
+        (0, Look::Find("lib")),
+        (0, Look::Told("lib", None)),
+        (0, Look::Read),
+        (0, Look::Told("lib", None)),
+        (0, Look::Find("lib")),
+        (0, Look::Told("lib", Some(&[1]))),
+    ]),
+)];
+
 /// What is kept of a small document stays beside another of few rows and long values, and is
-/// forgotten for a longer one, which is forgotten in turn where the small one is read again. No
-/// document is lost.
-const ROOM: [Step; 4] = [
+/// forgotten for a longer one.
+const ROOM: [Step; 3] = [
     (
         &[Call::HandOver("a", LIBRARY, Put::Stored)],
         Task::Names(&[
@@ -196,57 +166,19 @@ const ROOM: [Step; 4] = [
             (0, Look::Told("book", Some(&[2, 5]))),
         ]),
     ),
-    (
-        &[
-            Call::Load("a", Some(LIBRARY)),
-            Call::Load("b", Some(Long(130))),
-        ],
-        Task::Documents(&[LIBRARY, Long(130)]),
-    ),
 ];
 
-#[test]
-fn room_for_long_values(rt: HostRuntime) -> Result<(), Want> {
-    none_is_wrong(
-        &rt,
-        wrong_step(rt.alloc(), in_memory(rt.alloc())?, &ROOM)?,
-        0,
-    );
-    Ok(())
-}
-
 /// The steps, each list for a new store.
-const LISTS: [&[Step]; 5] = [&STEPS, &BOTH, &TABLES, &NAMES, &VALUES];
+const LISTS: [&[Step]; 5] = [&BOTH, &NAMES, &VALUES, &PART, &ROOM];
 
 #[test]
-fn views_in_memory(rt: HostRuntime) -> Result<(), Want> {
+fn views(rt: HostRuntime) -> Result<(), Want> {
     for (number, steps) in LISTS.iter().enumerate() {
         none_is_wrong(
             &rt,
             wrong_step(rt.alloc(), in_memory(rt.alloc())?, steps)?,
             number,
         );
-    }
-    Ok(())
-}
-
-#[test]
-fn views_on_memory_disks(rt: HostRuntime) -> Result<(), Want> {
-    for (number, steps) in LISTS.iter().enumerate() {
-        none_is_wrong(
-            &rt,
-            wrong_step(rt.alloc(), on_disks(rt.alloc())?, steps)?,
-            number,
-        );
-    }
-    Ok(())
-}
-
-#[test]
-fn views_of_other_orders(rt: HostRuntime) -> Result<(), Fail> {
-    for (number, order) in ORDERS.iter().enumerate() {
-        let store = adopted(rt.alloc(), made(rt.alloc(), order)?)?;
-        none_is_wrong(&rt, wrong_step(rt.alloc(), store, &STEPS)?, number);
     }
     Ok(())
 }
