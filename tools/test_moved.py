@@ -1,5 +1,6 @@
 """Each place that tools/rows/moved.txt names exists: no test was lost where it was moved."""
 
+import functools
 import pathlib
 import re
 import unittest
@@ -13,15 +14,18 @@ FORMER_TESTS = 179
 ITEM = r"(?m)^\s*(?:pub )?(?:fn|const) {}\b"
 
 
+@functools.cache
 def text_of(path: str) -> str:
     """A file of this repository, or nothing where it is not there."""
     file = TOP / path
     return file.read_text(encoding="utf-8") if file.is_file() else ""
 
 
+@functools.cache
 def names_in(table: str) -> set[str]:
-    """The names that a table's parts have."""
-    given = row_tables.read(pathlib.Path(table).name)
+    """The names that a table's parts have; none where there is no such table."""
+    path = row_tables.FOLDER / pathlib.Path(table).name
+    given = row_tables.read(path.name) if path.exists() else {}
     return {it["name"] for part in ("group", "judged", "case") for it in given.get(part, [])}
 
 
@@ -53,7 +57,7 @@ def exists(place: str) -> bool:
         return bool(re.search(ITEM.format(name), text_of(path)))
     if name.startswith("-") or not name:
         return bool(text_of(path)) and all(
-            it in ("--file", "--table") or it in row_tables.tables() for it in name.split())
+            it in ("--file", "--table") or names_in(it) for it in name.split())
     return is_test(path, name)
 
 
