@@ -124,14 +124,16 @@ fn after(rt: &impl Abort, alloc: Global, clause: Clause, keys: &[i64]) -> Result
 }
 
 /// Whether the items begin with the number, and are so many.
-fn begin_with(items: &[Item], number: i64, count: usize) -> bool {
-    match items.first() {
-        Some(Item::Atom(Atom::Int(first))) => *first == number && items.len() == count,
+fn begin_with(items: &[Item], number: Option<&i64>, count: Option<&usize>) -> bool {
+    match (items.first(), number, count) {
+        (Some(Item::Atom(Atom::Int(first))), Some(number), Some(count)) => {
+            *first == *number && items.len() == *count
+        }
         _ => false,
     }
 }
 
-/// Whether the tuples hold what is wanted in slot 0, as a column and one by one.
+/// Whether the tuples hold in slot 0 so many items each, of which the first are these numbers.
 fn hold(
     rt: &impl Abort,
     stream: &Tuples,
@@ -139,11 +141,8 @@ fn hold(
 ) -> Result<bool, Fault> {
     assert!(rt; stream.has_slot(0));
     let column = stream.column(0)?;
-    for (tuple, (number, count)) in numbers.iter().zip(counts).enumerate() {
-        let Some(items) = column.get(tuple) else {
-            return Ok(false);
-        };
-        if !begin_with(items, *number, *count) {
+    for (tuple, items) in column.iter().enumerate() {
+        if !begin_with(items, numbers.get(tuple), counts.get(tuple)) {
             return Ok(false);
         }
     }
