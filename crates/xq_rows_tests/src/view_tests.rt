@@ -169,7 +169,7 @@ const ROOM: [Step; 3] = [
 ];
 
 /// The steps, each list for a new store.
-const LISTS: [&[Step]; 5] = [&BOTH, &NAMES, &VALUES, &PART, &ROOM];
+const LISTS: [&[Step]; 4] = [&BOTH, &NAMES, &VALUES, &PART];
 
 #[test]
 fn views(rt: HostRuntime) -> Result<(), Want> {
@@ -180,5 +180,15 @@ fn views(rt: HostRuntime) -> Result<(), Want> {
             number,
         );
     }
+    Ok(())
+}
+
+#[test]
+fn room_for_long_values(rt: HostRuntime) -> Result<(), Want> {
+    none_is_wrong(
+        &rt,
+        wrong_step(rt.alloc(), in_memory(rt.alloc())?, &ROOM)?,
+        0,
+    );
     Ok(())
 }

@@ -6,6 +6,7 @@ use crate::asserts::none_is_wrong;
 use crate::servers::{run_bytes, server_over, store_of};
 use sqlite::Alter;
 use std::alloc::{AllocError, Global};
+use std::process::Abort;
 use std::test::Fail;
 use xq_atoms::Want;
 use xq_rows::Store;
@@ -187,22 +188,31 @@ const RUNS: [Run<'static, Row>; 3] = [
     },
 ];
 
-/// The files that stop, and the pages of the log: one of one page is copied into the database at
+/// Makes each run, with a file that stops at each of its calls in turn, and checks that none is
+/// answered wrongly or leaves other documents. A log of one page is copied into the database at
 /// each commit.
-const STOPS: [(Stop, usize); 4] = [
-    (Stop::OfLog, 128),
-    (Stop::OfDatabase, 128),
-    (Stop::OfLog, 1),
-    (Stop::OfDatabase, 1),
-];
-
-/// Each run is made with a file that stops at each of its calls in turn: none is answered wrongly
-/// or leaves other documents.
-#[test]
-fn stops(rt: HostRuntime) -> Result<(), Fail> {
-    for (number, (stop, log_pages)) in STOPS.iter().enumerate() {
-        let wrong = wrong_run(rt.alloc(), &RUNS, *stop, *log_pages)?;
-        none_is_wrong(&rt, wrong, number);
-    }
+fn check_stops(rt: &(impl Abort + AllocGlobal), stop: Stop, log_pages: usize) -> Result<(), Fail> {
+    let wrong = wrong_run(rt.alloc(), &RUNS, stop, log_pages)?;
+    none_is_wrong(rt, wrong, log_pages);
     Ok(())
+}
+
+#[test]
+fn of_the_log(rt: HostRuntime) -> Result<(), Fail> {
+    check_stops(&rt, Stop::OfLog, 128)
+}
+
+#[test]
+fn of_the_database(rt: HostRuntime) -> Result<(), Fail> {
+    check_stops(&rt, Stop::OfDatabase, 128)
+}
+
+#[test]
+fn of_a_short_log(rt: HostRuntime) -> Result<(), Fail> {
+    check_stops(&rt, Stop::OfLog, 1)
+}
+
+#[test]
+fn of_the_database_under_a_short_log(rt: HostRuntime) -> Result<(), Fail> {
+    check_stops(&rt, Stop::OfDatabase, 1)
 }
