@@ -15,10 +15,9 @@ ITEM = r"(?m)^\s*(?:pub )?(?:fn|const) {}\b"
 
 
 @functools.cache
-def text_of(path: str) -> str:
-    """A file of this repository, or nothing where it is not there."""
-    file = TOP / path
-    return file.read_text(encoding="utf-8") if file.is_file() else ""
+def text_of(pattern: str) -> str:
+    """The files of this repository with such a path; nothing where there is none."""
+    return "\n".join(it.read_text(encoding="utf-8") for it in sorted(TOP.glob(pattern)))
 
 
 @functools.cache
@@ -29,11 +28,12 @@ def names_in(table: str) -> set[str]:
     return {it["name"] for part in ("group", "judged", "case") for it in given.get(part, [])}
 
 
-def function_in(path: str, name: str) -> str:
-    """A function of a Rattle file, from its head to its body, or nothing."""
-    found = re.search(rf"(?ms)^\s*(?:pub )?fn {name}\b.*?^\s*\{{$|^\s*fn {name}\b.*?;$",
-                      text_of(path))
-    return found[0] if found else ""
+def has_clause(function: str, clause: str) -> bool:
+    """Whether a function of a crate has a clause with that name between its head and its body."""
+    heads = re.finditer(rf"(?m)^\s*(?:pub )?fn {function}\b", text_of("crates/*/src/**/*.rt"))
+    contracts = (re.split(r"(?m)^\s*\{$|;$", found.string[found.start():][:4_000], maxsplit=1)[0]
+                 for found in heads)
+    return any(re.search(rf"ensures {clause}\b", it) for it in contracts)
 
 
 def is_test(path: str, name: str) -> bool:
@@ -45,9 +45,9 @@ def is_test(path: str, name: str) -> bool:
 
 def exists(place: str) -> bool:
     """Whether a new place is there."""
-    clause = re.fullmatch(r"clause (\w+) of (\S+) (\w+)", place)
+    clause = re.fullmatch(r"clause (\w+) of (\w+)", place)
     if clause:
-        return re.search(rf"ensures {clause[1]}\b", function_in(clause[2], clause[3])) is not None
+        return has_clause(clause[2], clause[1])
     if place.startswith("contract of "):
         return bool(re.search(ITEM.format(place.split()[-1]), text_of(place.split()[2])))
     path, _, name = place.partition(" ")
