@@ -8,6 +8,8 @@
                  to its end: its output is D/N.out, and D/N.at says how many bytes of output there
                  were before, D/N.err is its standard error, and D/N.end its exit status, or the
                  signal that killed it below 0. The parent waits for it, and is refused nothing.
+     FIRST=N     it forks from the N-th on, and not before
+     EVERY=N     and then at every N-th alone
 
    Standard input and output of a program that forks have to be files: a child reads on from where
    its parent is. */
@@ -22,13 +24,19 @@
 
 enum { SECONDS = 60, LONGEST = 4096 };
 
-static long count, wanted;
+static long count, wanted, first, every;
 static const char *forks;
 static int begun, is_busy, is_child;
 
+static long number_in(const char *name, long otherwise) {
+    const char *number = getenv(name);
+    return number ? atol(number) : otherwise;
+}
+
 static void begin(void) {
-    const char *number = getenv("REFUSE");
-    wanted = number ? atol(number) : 0;
+    wanted = number_in("REFUSE", 0);
+    first = number_in("FIRST", 1);
+    every = number_in("EVERY", 1);
     forks = getenv("FORKS");
     begun = 1;
 }
@@ -86,7 +94,10 @@ static int refuses(void) {
     if (!begun) begin();
     if (is_busy) return 0;
     count++;
-    if (forks) return !is_child && fork_here();
+    if (forks) {
+        int is_next = count >= first && (count - first) % every == 0;
+        return is_next && !is_child && fork_here();
+    }
     if (count != wanted) return 0;
     const char *path = getenv("REFUSED");
     int file = path ? open(path, O_CREAT | O_WRONLY, 0600) : -1;

@@ -205,12 +205,13 @@ def judge(program: Program, ended: Ended, whole: Sequence[Reply]) -> Judgement:
     return judge_later(program, place, got, whole)
 
 
-def forked(program: Program, whole: Ended) -> dict[int, Ended]:
-    """The runs of all refusals in memory, by the numbers of their allocations."""
+def forked(program: Program, whole: Ended, numbers: range) -> dict[int, Ended]:
+    """The runs of these refusals in memory, by the numbers of their allocations."""
     folder = program.folder / "forks"
     folder.mkdir()
     data = b"".join(program.sent) + TOO_LONG
-    if program.run(data, FORKS=str(folder)) != whole:
+    steps = {"FIRST": str(numbers.start), "EVERY": str(numbers.step)}
+    if program.run(data, FORKS=str(folder), **steps) != whole:
         sys.exit("refuse_each_growth: the process that forked has other replies")
     runs = {}
     for end in folder.glob("*.end"):
@@ -224,7 +225,7 @@ def judged_in_memory(
     program: Program, whole: Ended, numbers: range
 ) -> dict[int, Judgement]:
     """Judges the refusal of each of these allocations in memory."""
-    runs = forked(program, whole)
+    runs = forked(program, whole, numbers)
     wanted = replies(whole.output)[0]
     return {number: judge(program, runs[number], wanted) for number in numbers}
 
@@ -278,14 +279,27 @@ def inputs(table: str) -> list[Input]:
             for run in runs(table)]
 
 
-def faults_of(given: Input, allocator: pathlib.Path, asked: argparse.Namespace) -> int:
-    """Judges all refusals in the runs of an input; gives how many are faults."""
+def opening(program: Program) -> int:
+    """How many allocations a run in memory makes before its first frame, and at its end."""
+    report = program.folder / "opening"
+    program.run(b"", REPORT=str(report))
+    return int(report.read_text())
+
+
+def faults_of(
+    given: Input, allocator: pathlib.Path, asked: argparse.Namespace, is_first: bool
+) -> int:
+    """Judges all refusals in the runs of an input; gives how many are faults.
+
+    Those of an opening in memory are tried with the first input alone.
+    """
     with tempfile.TemporaryDirectory() as name:
         program = Program((asked.program or built()).resolve(), pathlib.Path(name), allocator,
                           given)
         whole, total = checked(program, program.words("whole") if asked.file else [])
         begin = time.monotonic()
-        numbers = range(asked.first, (asked.last or total) + 1, asked.every)
+        first = asked.first if is_first or asked.file else max(asked.first, opening(program))
+        numbers = range(first, (asked.last or total) + 1, asked.every)
         judged = (judged_on_file if asked.file else judged_in_memory)(program, whole, numbers)
         took = time.monotonic() - begin
     faults = {number: it for number, it in judged.items() if it.fault}
@@ -312,7 +326,8 @@ def main() -> int:
     given = [it for table in asked.table for it in inputs(table)]
     with tempfile.TemporaryDirectory() as folder:
         allocator = compiled(pathlib.Path(folder))
-        faults = [faults_of(it, allocator, asked) for it in given or [Input("rows", worked())]]
+        faults = [faults_of(it, allocator, asked, place == 0)
+                  for place, it in enumerate(given or [Input("rows", worked())])]
     return 1 if any(faults) else 0
 
 
