@@ -50,6 +50,18 @@ class Sessions(ServerTest):
         self.assertIn("1:1: there is no function conut; the nearest is count",
                       self.asked("conut(1)"))
 
+    def test_names_with_prefixes_and_folders(self) -> None:
+        self.server.store("p/1", "document {element dc__t {attribute xml__lang {'en'}, 'x'}}")
+        self.asked(".names flat")
+        node = 'element dc:t {attribute xml:lang {"en"}, text {"x"}}'
+        self.assertEqual(self.asked('collection("p")//dc:t[@xml:lang]'), node)
+        self.assertEqual(self.asked(".get p/1"), f"document {{{node}}}")
+        self.assertIn("1:14: there is no function conut", self.asked('//dc:t, "a", conut(1)'))
+        self.assertIn("1:3: the language has no dc:*", self.asked("//dc:*"))
+        self.assertIn("1:9: collection takes the name", self.asked("//dc:t, collection($x)"))
+        self.asked(".names refuse")
+        self.assertEqual(self.asked('collection("p")//dc__t/@*/name()'), '"xml__lang"')
+
     def test_documents(self) -> None:
         file = self.folder / "a b.xml"
         file.write_text("<p:a xmlns:p='u'/>")
@@ -59,7 +71,7 @@ class Sessions(ServerTest):
         self.assertEqual(self.asked(".list"), "b\nx")
         self.assertEqual(self.asked(".list x"), "x")
         self.assertEqual(self.asked(".get x"),
-                         'document {element p__a {attribute xmlns__p {"u"}}}')
+                         'document {element p:a {attribute xmlns:p {"u"}}}')
         self.asked(".xml on")
         self.assertEqual(self.asked(".get x"), '<p:a xmlns:p="u"/>')
         self.assertEqual(self.asked(f'.load "{self.folder}" in'), "1 stored, 0 refused")

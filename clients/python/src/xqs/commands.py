@@ -5,25 +5,22 @@ import os
 import sys
 from collections.abc import Sequence
 from contextlib import nullcontext
-from dataclasses import replace
 from pathlib import Path
 from typing import BinaryIO
 
-from xqs import places, stores
+from xqs import stores
+from xqs.asking import question, shown, strings_of
 from xqs.cli import connected, connection_options, server_of, warn_of_memory
 from xqs.client import Client
 from xqs.constructors import write_constructors
 from xqs.errors import Refused
 from xqs.fetch import document_events
-from xqs.folders import below, is_pattern, matching, with_folders
+from xqs.folders import is_pattern, matching
 from xqs.load import xml_choices, xml_options
-from xqs.prefixed import flattened, prefixed_events, prefixed_text
+from xqs.prefixed import prefixed_events
 from xqs.progress import progress_of
-from xqs.queries import q
-from xqs.rewriting import Rewritten
-from xqs.values import values
 from xqs.xml_in import XmlChoices
-from xqs.xml_out import FLAT, KEEP, write_document, xml
+from xqs.xml_out import FLAT, KEEP, write_document
 
 SHOWN = 5
 """So many addresses stand in a question."""
@@ -53,39 +50,18 @@ def query(words: Sequence[str]) -> int:
     out_options(parser)
     given = parser.parse_args(words)
     text = sys.stdin.read() if given.query == "-" else given.query
-    settings = dict(_setting(it) for it in given.set)
-    flat = flattened(text) if given.names == FLAT else Rewritten(text)
     with connected(given) as client:
-        asked = with_folders(flat.text, given.folder, client.list)
-        if given.folder is not None and not below(client.list(), given.folder):
+        asked = question(client, text, given.names, given.folder)
+        if asked.is_empty:
             print(f"xqs query: no document is below {given.folder}", file=sys.stderr)
         try:
-            answer = client.query_text(q(asked.text, **settings))
+            answer = client.query_text(asked.bound(**strings_of(given.set)))
         except Refused as error:
             print(f"xqs query: {error}", file=sys.stderr)
-            print(_place(text, flat, asked, error.code), end="", file=sys.stderr)
+            print(asked.place(error.code), end="", file=sys.stderr)
             return 1
-    if given.xml:
-        answer = "\n".join(xml(it, given.names) for it in values(answer))
-    elif given.names == FLAT:
-        answer = prefixed_text(answer)
-    print(answer)
+    print(shown(answer, given.xml, given.names))
     return 0
-
-
-def _place(text: str, flat: Rewritten, asked: Rewritten, code: str) -> str:
-    """The place in the text that explains a refusal of the query that it was rewritten as."""
-    place = places.find(asked.text, code)
-    if place is None:
-        return ""
-    return places.marked(text, replace(place, at=flat.place(asked.place(place.at))))
-
-
-def _setting(text: str) -> tuple[str, str]:
-    name, equals, value = text.partition("=")
-    if not equals:
-        raise ValueError(f"--set wants NAME=TEXT, not {text!r}")
-    return name, value
 
 
 def store(words: Sequence[str]) -> int:
@@ -174,12 +150,12 @@ def _asked(client: Client, words: Sequence[str]) -> list[str]:
 def _agreed(addresses: Sequence[str]) -> bool:
     """Asks whether documents are to be dropped; ValueError where nobody can be asked."""
     count = len(addresses)
-    shown = ", ".join(addresses[:SHOWN])
-    shown += f", and {count - SHOWN:,} more" if count > SHOWN else ""
+    first = ", ".join(addresses[:SHOWN])
+    first += f", and {count - SHOWN:,} more" if count > SHOWN else ""
     if not sys.stdin.isatty():
-        raise ValueError(f"{count:,} documents would be dropped ({shown}); nobody can be asked "
+        raise ValueError(f"{count:,} documents would be dropped ({first}); nobody can be asked "
                          "here, so say --yes")
-    print(f"{shown}\ndrop {count:,} document{'s' * (count != 1)}? [y/N] ", end="", file=sys.stderr,
+    print(f"{first}\ndrop {count:,} document{'s' * (count != 1)}? [y/N] ", end="", file=sys.stderr,
           flush=True)
     return sys.stdin.readline().strip().lower() in ("y", "yes")
 

@@ -7,6 +7,7 @@ from collections.abc import Callable
 from pathlib import Path
 
 from xqs import places
+from xqs.asking import question, shown
 from xqs.bounds import lost
 from xqs.client import Client
 from xqs.commands import store_file
@@ -15,12 +16,12 @@ from xqs.errors import Closed, Refused, XqError
 from xqs.export import Exporter
 from xqs.fetch import document_events
 from xqs.load import load_folder
+from xqs.prefixed import prefixed_events
 from xqs.shell_texts import COMMANDS, is_command, parted, texts_of
 from xqs.shell_texts import is_whole as is_whole
-from xqs.values import values
 from xqs.xml_in import XmlChoices
 from xqs.xml_names import Names
-from xqs.xml_out import FLAT, XmlWriter, xml
+from xqs.xml_out import FLAT, KEEP, XmlWriter
 
 _ADDRESS_CALLS = ('doc("', "doc('", 'doc-available("', "doc-available('")
 _ADDRESS_COMMANDS = (".drop ", ".store ", ".get ")
@@ -122,16 +123,19 @@ class Session:
         return done
 
     def _query(self, text: str) -> bool:
+        asked = question(self._client, text, self._shown_names)
         try:
-            answer = self._client.query_text(text)
+            answer = self._client.query_text(asked.bound())
         except Refused as error:
-            self._say(f"{error}\n{places.shown(text, error.code)}".rstrip("\n"))
+            self._say(f"{error}\n{asked.place(error.code)}".rstrip("\n"))
             return False
-        if self._xml:
-            names = FLAT if self._names is Names.FLAT else "keep"
-            answer = "\n".join(xml(it, names) for it in values(answer))
-        self._show(answer)
+        self._show(shown(answer, self._xml, self._shown_names))
         return True
+
+    @property
+    def _shown_names(self) -> str:
+        """What becomes of names on the way out."""
+        return FLAT if self._names is Names.FLAT else KEEP
 
     def _command(self, text: str) -> bool:
         name, *words = shlex.split(text)
@@ -147,11 +151,12 @@ class Session:
     def _do_get(self, address: str) -> None:
         pieces: list[str] = []
         if self._xml:
-            writer = XmlWriter(pieces.append, FLAT if self._names is Names.FLAT else "keep")
+            writer = XmlWriter(pieces.append, self._shown_names)
             for event in document_events(self._client, address):
                 writer.event(event)
         else:
-            write_constructors(document_events(self._client, address), pieces.append)
+            steps = document_events(self._client, address)
+            write_constructors(prefixed_events(steps, self._shown_names), pieces.append)
         self._show("".join(pieces))
 
     def _do_store(self, address: str, path: str) -> None:
@@ -172,8 +177,7 @@ class Session:
         return not outcome.wrong()
 
     def _do_export(self, folder: str, prefix: str = "") -> bool:
-        names = FLAT if self._names is Names.FLAT else "keep"
-        exporter = Exporter(self._client, Path(folder), "xml", names, force=False)
+        exporter = Exporter(self._client, Path(folder), "xml", self._shown_names, force=False)
         refused = exporter.export_all(prefix)
         for address, why in refused.items():
             self._say(f"{address}: {why}")

@@ -1,0 +1,75 @@
+"""Queries as people write them: asked as the server takes them, shown as they were asked.
+
+What `xqs query` and the shell share: names with a prefix, folders of documents, the form of the
+value, and the place of a fault in the text as it was written.
+"""
+
+from collections.abc import Mapping
+from dataclasses import dataclass, replace
+
+from xqs import places
+from xqs.client import Client
+from xqs.folders import FolderFault, below, with_folders
+from xqs.prefixed import flattened, told
+from xqs.queries import q
+from xqs.rewriting import Rewritten
+from xqs.values import values
+from xqs.xml_out import KEEP, is_flat, xml
+
+
+@dataclass(frozen=True)
+class Question:
+    """A query: its text as it was written, with flat names, and as it is asked.
+
+    `is_empty` says that it is asked of a folder without documents.
+    """
+
+    text: str
+    flat: Rewritten
+    asked: Rewritten
+    is_empty: bool = False
+
+    def bound(self, **strings: str) -> str:
+        """The text that is sent, with a string for each of these variables."""
+        return q(self.asked.text, **strings)
+
+    def place(self, code: str) -> str:
+        """The place that explains a refusal, with its line; empty where there is none."""
+        place = places.find(self.asked.text, code)
+        if place is None:
+            return ""
+        at = self.flat.place(self.asked.place(place.at))
+        return places.marked(self.text, replace(place, at=at))
+
+
+def question(client: Client, text: str, names: str = KEEP, folder: str | None = None) -> Question:
+    """The query; by `flat` names with a prefix are flat ones, and `folder` is what `collection()`
+    has. PrefixFault and FolderFault, with their place in the text."""
+    flat = flattened(text) if is_flat(names) else Rewritten(text)
+    known: list[str] = []
+
+    def addresses() -> list[str]:
+        known.extend(client.list())
+        return known
+
+    try:
+        asked = with_folders(flat.text, folder, addresses)
+    except FolderFault as error:
+        raise FolderFault(text, flat.place(error.at), error.why) from None
+    return Question(text, flat, asked, folder is not None and not below(known, folder))
+
+
+def shown(answer: str, as_xml: bool, names: str = KEEP) -> str:
+    """A printed value as it is shown: nodes as XML, an item a line, or as it is printed."""
+    if as_xml:
+        return "\n".join(xml(it, names) for it in values(answer))
+    return told(answer, names)
+
+
+def strings_of(settings: list[str]) -> Mapping[str, str]:
+    """The strings of `NAME=TEXT`; ValueError for anything else."""
+    pairs = [it.partition("=") for it in settings]
+    wrong = next((text for text, pair in zip(settings, pairs, strict=True) if not pair[1]), None)
+    if wrong is not None:
+        raise ValueError(f"--set wants NAME=TEXT, not {wrong!r}")
+    return {name: value for name, _, value in pairs}
