@@ -71,6 +71,22 @@ class Reading(unittest.TestCase):
             list(incoming(io.BytesIO(text.encode()), "f.xq", Temporary()).parts())
         self.assertEqual((caught.exception.line, caught.exception.column), (2, 1101))
 
+    def test_what_is_a_query(self) -> None:
+        def kind(data: bytes, source: str = "a.xml", by_name: bool = True) -> str:
+            return type(incoming(io.BytesIO(data), source, Temporary(), by_name=by_name)).__name__
+
+        for data in (b"<a/>", b"\n<a/>", b"\xef\xbb\xbf\n <a/>", "<a/>".encode("utf-16"), b"", b" \n",
+                     "<a/>".encode("utf-16-be"), "<?xml?>".encode("cp037")):
+            for source in ("a.xml", "a.xq", "a"):
+                self.assertEqual(kind(data, source), "XmlDocument", data)
+                self.assertEqual(kind(data, source, False), "XmlDocument", data)
+        for data, source in ((b"doc('a')", "a.xml"), (b"x<a/>", "a.svg"), (b"text", "README")):
+            self.assertEqual(kind(data, source), "XmlDocument")
+            self.assertEqual(kind(data, source, False), "QueryDocument")
+        for data, source in ((b"doc('a')", "a.xq"), (b"\n document{}", "a.xml"),
+                             (b"\xef\xbb\xbfdocument {}", "a"), (b"(: c :) 1", "b/a.xquery")):
+            self.assertEqual(kind(data, source), "QueryDocument")
+
     def test_names_and_bytes_of_queries(self) -> None:
         data = b"\xef\xbb\xbfdocument {element dc:a {attribute xmlns {'u'}}}"
         document = incoming(io.BytesIO(data), "f.xq", Temporary(), FLAT)
@@ -130,6 +146,19 @@ class Exported(CommandTest):
             self.assertEqual((second / name).read_bytes(), (first / name).read_bytes())
         self.assertEqual(self.run_command("get", "dc.xq", "--names", "flat")[1],
                          (first / "dc.xq").read_text())
+
+    def test_files_of_both_kinds_load_together(self) -> None:
+        self.write("a.xml", "document {element a {}}")
+        self.write("b.xml", "<b/>")
+        self.write("c.xml", "element c {}")
+        self.write("d.xml", "")
+        self.write("e.xq", "document {element e {}")
+        words = ("load", "--match", "*.xml", "--match", "*.xq", self.folder / "in")
+        status, out, said = self.run_command(*words)
+        self.assertEqual(status, 1)
+        self.assertEqual([it.split(": ")[0] for it in out.splitlines()],
+                         ["c.xml:1:1", "d.xml:1:1", "e.xq"])
+        self.assertEqual(self.run_command("list")[1].split(), ["a.xml", "b.xml"])
 
 
 if __name__ == "__main__":

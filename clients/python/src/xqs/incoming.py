@@ -3,8 +3,10 @@
 A file is judged as a whole before the first part of it is sent, where it can be read twice.
 """
 
+import re
 from collections.abc import Iterable, Iterator
 from io import SEEK_END
+from pathlib import PurePath
 from typing import BinaryIO, Protocol
 
 from xqs.constructor_reader import NOT_ONE, ConstructorReader
@@ -22,10 +24,12 @@ CHUNK, LONGEST_CHUNK = 1 << 16, 1 << 24
 """So many bytes of a file are read at once, at least and at most."""
 MAX_QUERY = MAX_REQUEST - MAX_ADDRESS - 6
 """A store has room for so many bytes of a query, whatever its address."""
-_XML = (b"<", b"\xef\xbb\xbf<", b"\xff\xfe", b"\xfe\xff", b"\0<", b"\0\0\0<", b"\0\0\xfe\xff",
-        b"\x4c\x6f\xa7\x94")
-"""How XML begins, in each encoding."""
+_XML = (b"<", b"\xff\xfe", b"\xfe\xff", b"\0<", b"\0\0\0<", b"\0\0\xfe\xff", b"\x4c\x6f\xa7\x94")
+"""How XML begins, in each encoding, after the byte order mark of UTF-8."""
 _MARK = b"\xef\xbb\xbf"
+_CONSTRUCTOR = re.compile(rb"document\s*\{")
+QUERY_ENDINGS = frozenset((".xq", ".xql", ".xqm", ".xqy", ".xquery"))
+"""How files of queries end."""
 
 
 class Incoming(Protocol):
@@ -160,16 +164,18 @@ def incoming(
     temporary: Temporary,
     choices: XmlChoices = XmlChoices(),  # noqa: B008 (it is frozen)
     charset: str | None = None,
+    by_name: bool = False,
 ) -> Incoming:
     """The document that a file gives; PlacedFault where it is refused, as far as that is seen.
 
-    It is XML where it begins so, else a query. `source` is how messages call it, and `charset` that
-    of its transport.
+    It is XML where it begins so, else a query; `by_name` it is a query where the ending of its name
+    says so, or where it begins as a constructor of a document. `source` is how messages call it,
+    and `charset` that of its transport.
     """
     first = b""
     while not first.strip() and (piece := file.read(CHUNK)):
         first += piece
-    if not first.lstrip().startswith(_XML):
+    if _is_query(first, by_name and PurePath(source).suffix not in QUERY_ENDINGS):
         return _query(first + file.read(), source, temporary, choices.names)
     if file.seekable() and (start := file.tell() - len(first)) >= 0:
         if file.seek(0, SEEK_END) - start > PART_BYTES:
@@ -179,6 +185,14 @@ def incoming(
         first = b""
     chunks = (it for some in ([first], chunks_of(file)) for it in some)
     return XmlDocument(chunks, XmlReader(source, temporary, choices, charset))
+
+
+def _is_query(first: bytes, constructors: bool) -> bool:
+    """Whether what begins so is a query; of `constructors` alone, one that is a document's."""
+    text = first.removeprefix(_MARK).lstrip()
+    if constructors:
+        return bool(_CONSTRUCTOR.match(text))
+    return bool(text) and not text.startswith(_XML)
 
 
 def _query(data: bytes, source: str, temporary: Temporary, names: Names) -> Incoming:

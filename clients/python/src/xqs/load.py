@@ -151,7 +151,7 @@ class Loader:
         try:
             address = address_of(file.path, self._prefix)
             with open(file.place, "rb") as data:
-                document = incoming(data, file.path, temporary, self._choices)
+                document = incoming(data, file.path, temporary, self._choices, by_name=True)
                 self._sender.send(address, document, temporary, done)
         except Closed:
             raise
