@@ -1,9 +1,10 @@
 #!/usr/bin/env python3
 """Writes what the client knows of the language from the server's own tables: the grammar of
-crates/xq_parser/specs/Grammar.antt, and the functions of crates/xq_expressions/specs/Signatures.antt.
+crates/xq_parser/specs/Grammar.antt, and the functions of Signatures.antt in
+crates/xq_expressions/specs.
 
-    tools/client_tables.py --check      says, by its status too, whether the client has them as they are
-    tools/client_tables.py --write      writes them anew, into the client and into docs/LANGUAGE.md
+    tools/client_tables.py --check      says, by its status too, whether the client has them so
+    tools/client_tables.py --write      writes them anew, into the client and docs/LANGUAGE.md
 """
 
 from __future__ import annotations
@@ -26,13 +27,14 @@ TERMINALS = {
 }
 """Lines of the grammar that stand for one token, by what the client calls it."""
 RENAMED = {
-    "Whole": "Expr", "Any": "ExprSingle", "Single": "ExprSingle", "QN": "Name", "Quant": "Quantified",
-    "QB": "QuantifiedBinding", "LetB": "LetBinding", "ForB": "ForBinding", "GroupS": "GroupSpec",
+    "Whole": "Expr", "Any": "ExprSingle", "Single": "ExprSingle", "QN": "Name",
+    "Quant": "Quantified", "QB": "QuantifiedBinding", "LetB": "LetBinding", "ForB": "ForBinding", "GroupS": "GroupSpec",
     "OrderS": "OrderSpec", "Comp": "Comparison", "Prod": "Product", "Inter": "Intersection",
     "StepRel": "Step", "AxisStepRel": "AxisStep", "ClauseRel": "Clause", "Make": "Constructor",
 }
 """Lines of the grammar that are called otherwise where people read them."""
-_LINE = re.compile(r"^ *abbrev pub (\w+) : (?:Rel|Table)[^\n]*\n((?: +[^\n]+\n|\1 =[^\n]*\n)+)", re.M)
+_LINE = re.compile(
+    r"^ *abbrev pub (\w+) : (?:Rel|Table)[^\n]*\n((?: +[^\n]+\n|\1 =[^\n]*\n)+)", re.M)
 _TOKEN = re.compile(r'"[^"]*"|[()▹◃∣&]|⟨\$⟩|[\w.\[\]]+')
 _ENTRY = re.compile(r'\((word "[^"]*"|symbol s\.\w+)')
 
@@ -138,7 +140,7 @@ class Translator:
             case "Commas":
                 text = self._bracketed()
                 return f'{text} ("," {text})*'
-        return TERMINALS.get(token) or RENAMED.get(token, token)
+        return TERMINALS.get(token, RENAMED.get(token, token))
 
     def _value(self) -> None:
         """Passes over what a phrase stands for."""
@@ -174,22 +176,25 @@ def no_calls() -> list[str]:
     return re.findall(r'word "([^"]+)"', dict(lines_of_grammar())["no_calls"])
 
 
-def signatures() -> dict[str, tuple[int, int | None]]:
+Arity = tuple[int, int | None]
+
+
+def signatures() -> dict[str, tuple[str, Arity]]:
     """By its name in the server, each function: its local name and its numbers of arguments."""
     text = SIGNATURES.read_text(encoding="utf-8")
-    found = re.findall(r'^signature f\.(\w+) = \(codes "([^"]+)", (\w+) (\d+)(?: (\d+))?\)$', text, re.M)
+    line = r'^signature f\.(\w+) = \(codes "([^"]+)", (\w+) (\d+)(?: (\d+))?\)$'
     return {
-        name: (local, int(least), int(most or least) if kind != "at_least" else None)
-        for name, local, kind, least, most in found
+        name: (local, (int(least), None if kind == "at_least" else int(most or least)))
+        for name, local, kind, least, most in re.findall(line, text, re.M)
     }
 
 
-def functions(table: str) -> dict[str, tuple[int, int | None]]:
+def functions(table: str) -> dict[str, Arity]:
     """The functions of a list of the server's, `library` or `constructors`."""
     text = SIGNATURES.read_text(encoding="utf-8")
     body = text.partition(f"\n{table} =")[2].partition("[]")[0]
     known = signatures()
-    return {known[it][0]: known[it][1:] for it in re.findall(r"f\.(\w+)", body)}
+    return dict(known[it] for it in re.findall(r"f\.(\w+)", body))
 
 
 def module() -> str:
@@ -198,8 +203,9 @@ def module() -> str:
                         for name, (least, most) in functions("library").items())
     types = ", ".join(f'"{it}"' for it in functions("constructors"))
     names = "\n".join(f'    "{it}",' for it in no_calls())
-    return f'''"""What the client knows of the language. tools/client_tables.py writes this from the server's own
-tables; a test compares them. Nothing here is to be changed by hand.
+    table = "\n".join(wrapped(line) for line in grammar().split("\n"))
+    return f'''"""What the client knows of the language. tools/client_tables.py writes this from the
+server's own tables, and a test compares them: change nothing here by hand.
 """
 
 FUNCTIONS: dict[str, tuple[int, int | None]] = {{
@@ -213,9 +219,9 @@ NO_CALLS = frozenset((
 ))
 """The names that no call has without a prefix."""
 GRAMMAR = r"""
-{grammar()}
+{table}
 """
-"""The grammar, one production a line; docs/LANGUAGE.md says what its tokens are."""
+"""The grammar, one production a line, which may go on with an indent; docs/LANGUAGE.md says what its tokens are."""
 '''
 
 
@@ -226,7 +232,7 @@ def wrapped(line: str) -> str:
         if len(lines[-1]) + len(word) > 92:
             lines.append("       ")
         lines[-1] += (" " if lines[-1] else "") + word
-    return "\n".join("    " + it for it in lines)
+    return "\n".join(lines)
 
 
 def page(text: str) -> str:
@@ -234,7 +240,8 @@ def page(text: str) -> str:
     begin, end = "<!-- grammar: tools/client_tables.py -->\n", "<!-- /grammar -->"
     before, _, rest = text.partition(begin)
     _, _, after = rest.partition(end)
-    lines = "\n".join(wrapped(line) for line in grammar().split("\n"))
+    lines = "\n".join("    " + it for line in grammar().split("\n")
+                      for it in wrapped(line).split("\n"))
     return f"{before}{begin}\n{lines}\n\n{end}{after}"
 
 
@@ -251,8 +258,8 @@ def main() -> int:
         print(__doc__, file=sys.stderr)
         return 2
     for path in differing:
-        print(f"{path.relative_to(TOP)} is not as the server has it: tools/client_tables.py --write",
-              file=sys.stderr)
+        print(f"{path.relative_to(TOP)} is not as the server has it: "
+              "tools/client_tables.py --write", file=sys.stderr)
     return 1 if differing else 0
 
 

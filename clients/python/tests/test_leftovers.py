@@ -6,15 +6,13 @@ import signal
 import subprocess
 import sys
 import time
+from collections.abc import Callable
 from pathlib import Path
 
 from tests.serving import SOURCES
 from tests.support import FolderTest
 
 PATIENCE = 60.0
-DOCUMENT = b"document {}"
-BACKUP = (b"xqs backup 1\ndocument 11 "
-          b"ae8a0b2b8c4a5c0e3d1a8fdf2a4d5d0b7c0a3b6e0b8c6d1f2a3b4c5d6e7f8091 a\n")
 
 
 def take_signals() -> None:
@@ -35,9 +33,8 @@ def running(mark: str) -> list[int]:
     return found
 
 
-def wait_until(is_so: "object", what: str) -> None:
+def wait_until(is_so: Callable[[], object], what: str) -> None:
     """Waits until the function says so."""
-    assert callable(is_so)
     end = time.monotonic() + PATIENCE
     while not is_so():
         if time.monotonic() > end:
@@ -70,7 +67,8 @@ class Leftovers(FolderTest):
     def server(self, name: str, mark: str, is_last: bool = True) -> str:
         """A script that stands for a server; it becomes the program, or waits for it."""
         script = self.folder / f"serve-{name}"
-        script.write_text(f"#!/bin/sh\n{'exec ' if is_last else ''}sleep {mark}\n{'' if is_last else ':'}")
+        line = f"exec sleep {mark}\n" if is_last else f"sleep {mark}\n:\n"
+        script.write_text(f"#!/bin/sh\n{line}")
         script.chmod(0o755)
         return str(script)
 

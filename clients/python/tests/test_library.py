@@ -1,4 +1,4 @@
-"""The library as Python's users know such: iteration, trees, shown objects, errors, reconnecting."""
+"""The library as Python's users know one: iteration, trees, `repr`, errors, reconnecting."""
 
 import asyncio
 import importlib.util
@@ -36,15 +36,15 @@ from xqs import (
 from xqs.bounds import Bounds
 from xqs.trees import NoTree
 
-ARTICLE = ('document {comment {"c"}, processing-instruction p {"q r"}, element a {attribute x {"1"}, '
-           'text {"t"}, element b {}, text {"u"}, comment {"d"}, text {"v"}}, comment {"e"}, '
+ARTICLE = ('document {comment {"c"}, processing-instruction p {"q r"}, '
+           'element a {attribute x {"1"}, text {"t"}, element b {}, text {"u"}, comment {"d"}, text {"v"}}, comment {"e"}, '
            'comment {"f"}}')
 has_lxml = importlib.util.find_spec("lxml") is not None
 
 
 class Results(ServerTest):
     def test_items_one_by_one(self) -> None:
-        found = self.server.iterate('1, 2.5, "a", element b {attribute c {"d"}, text {"e"}}, true()')
+        found = self.server.iterate('1, 2.5, "a", element b {attribute c {"d"}, "e"}, true()')
         self.assertEqual(next(found), 1)
         self.assertEqual(list(found)[:2], [Decimal("2.5"), "a"])
         self.assertEqual([it * 2 for it in self.server.query("1 to 3") if isinstance(it, int)],
@@ -110,7 +110,8 @@ class Trees(unittest.TestCase):
             with self.subTest(text), self.assertRaises(NoTree):
                 self.node(text).element()
         for wrong in (1, "a", ElementTree.fromstring("<p:a xmlns:p='u'/>"),
-                      ElementTree.fromstring("<a xmlns:p='u' p:b='c'/>"), ElementTree.ElementTree()):
+                      ElementTree.fromstring("<a xmlns:p='u' p:b='c'/>"),
+                      ElementTree.ElementTree()):
             with self.subTest(str(wrong)), self.assertRaises(NoTree):
                 Node.of(wrong)
 

@@ -196,7 +196,8 @@ class Terminal(TerminalTest):
     def test_documents_in_memory_are_lost_by_a_second_interrupt_alone(self) -> None:
         file = self.folder / "a.xml"
         file.write_text("<a/>")
-        lines = [f".store a {file}\r", ENDLESS, INTERRUPT, INTERRUPT, "3 + 4\r", ".list\r", ".quit\r"]
+        lines = [f".store a {file}\r", ENDLESS, INTERRUPT, INTERRUPT, "3 + 4\r", ".list\r",
+                 ".quit\r"]
         marks = {1: "stored\r\n", 2: "$x > 0\r\n", 3: "Ctrl+C again", 4: "lost: 1 of them: a",
                  5: "7\r\n", 6: ".list\r\n"}
         self.typed(lines, "--plain", marks=marks)

@@ -1,5 +1,5 @@
-"""Bytes to a server and from it, for asyncio: a connected socket, or the pipes of a program that was
-started."""
+"""Bytes to a server and from it, for asyncio: a connected socket, or the pipes of a program that
+was started."""
 
 import asyncio
 import os

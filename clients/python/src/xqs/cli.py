@@ -61,8 +61,10 @@ COMMANDS = {
     "gc": Entry("xqs.gc:main", "drop temporary documents that a crash left"),
     "shell": Entry("xqs.shell:main", "ask queries by hand"),
     "mux": Entry("xqs.mux:main", "one server for many clients", has_command=True),
-    "node": Entry("xqs.cluster.main:main", "a server that follows a replicated log", has_command=True),
-    "snapshot": Entry("xqs.cluster.main:snapshot_main", "have a node take a snapshot now", has_command=True),
+    "node": Entry(
+        "xqs.cluster.main:main", "a server that follows a replicated log", has_command=True),
+    "snapshot": Entry(
+        "xqs.cluster.main:snapshot_main", "have a node take a snapshot now", has_command=True),
     "web": Entry("xqs.web:main", "HTTP on loopback, and a page", has_command=True),
 }
 

@@ -38,9 +38,9 @@ class Client:
     """A connection to a server. Any number of threads may use it at once.
 
     Methods that end in `_later` send the request and give a future of its reply's text; the others
-    wait. Each raises Refused, Wanting, Closed or TimedOut by what becomes of the request, FrameFault
-    where it is too long for a frame, and NotAnAddress where an address is none; then nothing was
-    sent. All of them are XqErrors.
+    wait. Each raises Refused, Wanting, Closed or TimedOut by what becomes of the request,
+    FrameFault where it is too long for a frame, and NotAnAddress where an address is none; then
+    nothing was sent. All of them are XqErrors.
 
     `timeout` is how many seconds a call may take in all; 0 is any time, and without one the
     connection's bound holds, which is how long the server may be at one request. When a call is

@@ -51,7 +51,8 @@ Where: TypeAlias = Endpoint | str | os.PathLike[str] | Sequence[str | os.PathLik
 def endpoint(where: Where) -> Endpoint:
     """Where a text or a list of words points to.
 
-    NoPlace (a ValueError) for a host that is not loopback, a port that is none, and an empty command.
+    NoPlace (a ValueError) for a host that is not loopback, a port that is none, and a command that
+    is none.
     """
     if isinstance(where, UnixSocket | LoopbackPort | Command):
         return where

@@ -54,9 +54,10 @@ SENTENCES = {
     # Of status 2.
     # What `xqs mux` refuses by itself.
     "xqs:READONLY": "nothing can be stored or dropped here; the multiplexer runs with --read-only",
-    "xqs:SECONDS": "the query took longer than the multiplexer allows (--seconds N, 0 for any time)",
+    "xqs:SECONDS": "the query took longer than the multiplexer allows (--seconds N, 0: any time)",
     # Status 2.
-    "memory": "the server ran out of memory; nothing has changed, the request may be sent again",
+    "memory": "the server ran out of memory (--memory SIZE allows more); nothing has changed, the "
+    "request may be sent again",
     "store": "the server's database failed; look at the disk, then send the request again, and "
     "start the server anew where every request fails so",
 }

@@ -37,11 +37,12 @@ class Grammar:
     """The productions of a table, without its brackets and signs of repetition."""
 
     def __init__(self, table: str) -> None:
-        """`table` has a production a line, the whole text first."""
+        """`table` has a production a line, which may go on with an indent, the whole text first."""
         self.heads: list[str] = []
         self.bodies: list[tuple[str, ...]] = []
         self.of: dict[str, list[int]] = {}
-        lines = [line.split(" ::= ") for line in table.strip().splitlines()]
+        whole = re.sub(r"\n +", " ", table.strip())
+        lines = [line.split(" ::= ") for line in whole.splitlines()]
         self.start = lines[0][0]
         for name, body in lines:
             self._pieces: list[str] = _PIECE.findall(body)
@@ -131,7 +132,8 @@ class Reader:
     def is_whole(self) -> bool:
         """Whether the tokens so far are a whole text."""
         heads, bodies = self._grammar.heads, self._grammar.bodies
-        return any(begin == 0 and heads[number] == self._grammar.start and dot == len(bodies[number])
+        start = self._grammar.start
+        return any(begin == 0 and heads[number] == start and dot == len(bodies[number])
                    for number, dot, begin in self._sets[-1].items)
 
     def take(self, kinds: frozenset[Terminal]) -> bool:

@@ -107,8 +107,8 @@ def why_not_opened(command: Sequence[str]) -> str:
     found = holders(path)
     if found:
         by = [f"{it}{_started_by(it)}" for it in found]
-        return (f"{path} is in use by {' and '.join(by)}: end that, or ask through it (`xqs mux` and "
-                "`xqs web` serve one file to many)")
+        return (f"{path} is in use by {' and '.join(by)}: end that, or ask through it (`xqs mux` "
+                "and `xqs web` serve one file to many)")
     folder = path.parent
     if not folder.is_dir():
         return f"there is no folder {folder}"

@@ -1,5 +1,5 @@
-"""What the client knows of the language. tools/client_tables.py writes this from the server's own
-tables; a test compares them. Nothing here is to be changed by hand.
+"""What the client knows of the language. tools/client_tables.py writes this from the
+server's own tables, and a test compares them: change nothing here by hand.
 """
 
 FUNCTIONS: dict[str, tuple[int, int | None]] = {
@@ -78,16 +78,21 @@ Body ::= "{" Expr? "}"
 Computed ::= "{" Expr "}"
 NameOfNode ::= Name | Computed
 NameOfInstruction ::= NAME | Computed
-Constructor ::= (("element" | "attribute") NameOfNode Body) | "processing-instruction" NameOfInstruction Body | (("document" | "text" | "comment") Body)
+Constructor ::= (("element" | "attribute") NameOfNode Body) | "processing-instruction"
+        NameOfInstruction Body | (("document" | "text" | "comment") Body)
 Arguments ::= "(" (ExprSingle ("," ExprSingle)*)? ")"
 Called ::= CallName Arguments
 Call ::= Called
 Parenthesised ::= "(" Expr? ")"
 Primary ::= INTEGER | DECIMAL | STRING | Variable | Parenthesised | "." | Call | Constructor
 NameOrAny ::= (Name | "*")?
-KindTest ::= (("node" | "text" | "comment" | "document-node") "(" ")") | "processing-instruction" "(" NAME? ")" | "element" "(" NameOrAny ")" | "attribute" "(" NameOrAny ")"
+KindTest ::= (("node" | "text" | "comment" | "document-node") "(" ")") |
+        "processing-instruction" "(" NAME? ")" | "element" "(" NameOrAny ")" | "attribute"
+        "(" NameOrAny ")"
 Test ::= Name | "*" | KindTest
-AxisStep ::= (("child" | "descendant" | "descendant-or-self" | "self" | "attribute" | "parent" | "ancestor" | "ancestor-or-self" | "following" | "following-sibling" | "preceding" | "preceding-sibling") "::" Test) | "@" Test | ".." | Test
+AxisStep ::= (("child" | "descendant" | "descendant-or-self" | "self" | "attribute" |
+        "parent" | "ancestor" | "ancestor-or-self" | "following" | "following-sibling" |
+        "preceding" | "preceding-sibling") "::" Test) | "@" Test | ".." | Test
 Predicate ::= "[" Expr "]"
 Step ::= AxisStep Predicate* | Primary Predicate*
 Relative ::= Step (("/" | "//") Step)*
@@ -101,13 +106,15 @@ Product ::= Union (("*" | "div" | "idiv" | "mod") Union)*
 Sum ::= Product (("+" | "-") Product)*
 Range ::= Sum ("to" Sum)?
 Concat ::= Range ("||" Range)*
-Comparison ::= Concat (("eq" | "ne" | "lt" | "le" | "gt" | "ge" | "=" | "!=" | "<" | "<=" | ">" | ">=" | "is" | "<<" | ">>") Concat)?
+Comparison ::= Concat (("eq" | "ne" | "lt" | "le" | "gt" | "ge" | "=" | "!=" | "<" | "<=" |
+        ">" | ">=" | "is" | "<<" | ">>") Concat)?
 And ::= Comparison ("and" Comparison)*
 Or ::= And ("or" And)*
 Tested ::= "(" Expr ")"
 If ::= "if" Tested "then" ExprSingle "else" ExprSingle
 QuantifiedBinding ::= Variable "in" ExprSingle
-Quantified ::= ("some" | "every") QuantifiedBinding ("," QuantifiedBinding)* "satisfies" ExprSingle
+Quantified ::= ("some" | "every") QuantifiedBinding ("," QuantifiedBinding)* "satisfies"
+        ExprSingle
 EmptyWords ::= ("empty" ("greatest" | "least"))?
 DirectionWord ::= ("ascending" | "descending")?
 OrderSpec ::= ExprSingle DirectionWord EmptyWords
@@ -126,4 +133,4 @@ Clause ::= For | Let | Filter | Group | Count | Order
 Flwor ::= (For | Let) Clause* "return" ExprSingle
 ExprSingle ::= Flwor | Quantified | If | Or
 """
-"""The grammar, one production a line; docs/LANGUAGE.md says what its tokens are."""
+"""The grammar, one production a line, which may go on with an indent; docs/LANGUAGE.md says what its tokens are."""

@@ -264,7 +264,8 @@ def main(words: Sequence[str]) -> int:
     head = _head(given, str(place))
     journal = Journal(given.journal or default_place(json.dumps(head)), head, given.anew)
     try:
-        with progress_of(len(search.found), search.size) as progress, connected(given, place) as client:
+        bar = progress_of(len(search.found), search.size)
+        with bar as progress, connected(given, place) as client:
             _drop_left(client, journal.temporary)
             loader = Loader(client, journal, progress, given.prefix, xml_choices(given))
             outcome = loader.load(search.found)

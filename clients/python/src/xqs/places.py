@@ -1,8 +1,8 @@
 """Where the text of a query is at fault.
 
 A reply has a code and no place. What is said here is seen in the text itself: by its tokens, by the
-grammar (`grammar` reads them), and by the functions and variables that the language or the text has.
-It is asked only where the server has refused the text, whose code decides; where nothing here
+grammar (`grammar` reads them), and by the functions and variables that the language or the text
+has. It is asked only where the server has refused the text, whose code decides; where nothing here
 explains the code, nothing is said.
 """
 

@@ -66,7 +66,7 @@ def _end_query(session: Session) -> None:
     ended by a second interrupt alone, or by its bound."""
     warning = session.interrupt()
     if not warning:
-        print("interrupted: the query is ended", file=sys.stderr)
+        print("interrupted: what ran is ended", file=sys.stderr)
         return
     print(f"interrupted; {warning}; Ctrl+C again ends it all the same", file=sys.stderr)
     try:

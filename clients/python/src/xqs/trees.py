@@ -64,7 +64,7 @@ def _parts(node: Node) -> tuple[Node, list[Node], list[Node]]:
     roots = [number for number, it in enumerate(node.children) if it.kind is NodeKind.ELEMENT]
     is_one = node.kind is NodeKind.DOCUMENT and len(roots) == 1
     if not is_one or any(it.kind is NodeKind.TEXT for it in node.children):
-        raise NoTree(f"a tree is of an element, or of a document with one, and this is: {node.kind}")
+        raise NoTree(f"a tree is of an element, or of a document with one; this is: {node.kind}")
     return node.children[roots[0]], node.children[: roots[0]], node.children[roots[0] + 1 :]
 
 

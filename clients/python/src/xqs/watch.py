@@ -12,7 +12,7 @@ from xqs.requests import PROBE, SHOWN, F, InFlight, Waiting
 from xqs.starting import how_ended
 
 SOCKET_SHARE = 1.05
-"""Of the time that a request has, so much is waited at a socket, whose server has the same bound."""
+"""So much of a request's time is waited at a socket, whose server has the same bound."""
 
 
 class Watch(Generic[F]):
@@ -94,8 +94,9 @@ class Watch(Generic[F]):
             return None
         if self.is_started:
             return Cause.OVERDUE
-        front.fail(TimedOut(f"no reply for {front.seconds:g} seconds; the server may be at it still "
-                            f"(the request was: {front.request.shown[:SHOWN]})"))
+        shown = front.request.shown[:SHOWN]
+        front.fail(TimedOut(f"no reply for {front.seconds:g} seconds; the server may be at it "
+                            f"still (the request was: {shown})"))
         return None
 
     def told_end(self, cause: Cause, why: str, waiting: list[Waiting[F]],
@@ -129,4 +130,5 @@ class Watch(Generic[F]):
 
     def _may_end(self) -> bool:
         it = self.in_flight
-        return self.is_forced or may_end(self.origin, self.closing is not None, bool(it.stored), it.has_changes())
+        return self.is_forced or may_end(
+            self.origin, self.closing is not None, bool(it.stored), it.has_changes())
