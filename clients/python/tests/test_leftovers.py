@@ -5,14 +5,17 @@ import os
 import signal
 import subprocess
 import sys
+import threading
 import time
 from collections.abc import Callable
 from pathlib import Path
 
 from tests.serving import SOURCES
-from tests.support import FolderTest
+from tests.support import FolderTest, file_server, server_command
+from xqs import Client, connect
 
 PATIENCE = 60.0
+ENDLESS = "every $x in 1 to 1000000, $y in 1 to 1000000 satisfies $x > 0"
 
 
 def take_signals() -> None:
@@ -39,7 +42,7 @@ def wait_until(is_so: Callable[[], object], what: str) -> None:
     while not is_so():
         if time.monotonic() > end:
             raise AssertionError(what)
-        time.sleep(0.02)
+        time.sleep(0.1)
 
 
 class Leftovers(FolderTest):
@@ -114,4 +117,52 @@ class Leftovers(FolderTest):
 
     def test_killed_before_a_script_that_waits_for_its_server(self) -> None:
         self.ends_all(signal.SIGKILL, is_last=False)
-        self.ends_all(signal.SIGTERM, is_last=False)
+
+
+class Keepers(FolderTest):
+    def test_a_server_that_works_ends_with_its_client(self) -> None:
+        server = file_server(self.folder / "x.db")
+        for one in (signal.SIGTERM, signal.SIGKILL):
+            process = subprocess.Popen(
+                [sys.executable, "-m", "xqs", "query", ENDLESS, "--", *server], cwd=SOURCES,
+                stderr=subprocess.DEVNULL)
+            wait_until(lambda: len(running(str(self.folder / "x.db"))) == 3, "no server runs")
+            time.sleep(0.5)
+            process.send_signal(one)
+            process.wait(PATIENCE)
+            wait_until(lambda: not running(str(self.folder / "x.db")), "the server is left")
+
+    def test_its_end_is_the_end_of_the_server(self) -> None:
+        client = connect(["sleep", f"8{os.getpid()}.25"])
+        wait_until(lambda: len(running(f"8{os.getpid()}.25")) == 2, "nothing runs")
+        stream = client._link.stream
+        assert stream is not None and stream.process is not None
+        stream.process.kill()
+        wait_until(lambda: not running(f"8{os.getpid()}.25"), "the program is left")
+        client.kill()
+
+    def test_a_server_outlives_the_thread_that_started_it(self) -> None:
+        clients: list[Client] = []
+        thread = threading.Thread(target=lambda: clients.append(connect(server_command())))
+        thread.start()
+        thread.join()
+        time.sleep(0.5)
+        self.assertEqual(clients[0].query("1"), [1])
+        self.assertEqual(clients[0].close(), 0)
+
+    def test_a_command_that_ignores_a_hangup_goes_on(self) -> None:
+        process = subprocess.Popen(
+            ["nohup", sys.executable, "-m", "xqs", "query",
+             "count(for $x in 1 to 1000, $y in 1 to 5000 return 1)", "--", *server_command()],
+            cwd=SOURCES, stdin=subprocess.DEVNULL, stdout=subprocess.PIPE,
+            stderr=subprocess.DEVNULL, start_new_session=True)
+        time.sleep(1)
+        process.send_signal(signal.SIGHUP)
+        out, _ = process.communicate(timeout=PATIENCE)
+        self.assertEqual((process.returncode, out), (0, b"5000000\n"))
+
+    def test_the_status_of_a_server_is_told(self) -> None:
+        for script, status in (("exit 7", 7), ("kill -KILL $$", -9), ("kill -TERM $$", -15)):
+            with self.subTest(script):
+                client = connect(["sh", "-c", script])
+                self.assertEqual(client.close(), status)
