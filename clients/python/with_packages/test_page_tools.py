@@ -8,7 +8,7 @@ import tempfile
 import unittest
 from pathlib import Path
 
-from pages import HAS_EDITOR, PageTest
+from pages import HAS_EDITOR, PageTest, devtools
 from running import TOKEN
 from tests.serving import RunningMux
 
@@ -106,6 +106,28 @@ class Queries(ToolsTest):
                 "document.querySelector('.CodeMirror').CodeMirror.getValue().length > "
                 f"{len(text)} || document.querySelector('.CodeMirror-hint')")
             self.assertTrue(self.written().endswith(found[0]), self.written())
+
+
+class Plain(ToolsTest):
+    """The page where there is no editor for it."""
+
+    def test_a_plain_field(self) -> None:
+        self.browser.call("Network.enable")
+        self.browser.call("Network.setBlockedURLs", urls=["*/page/codemirror.js"])
+        self.addCleanup(self.browser.call, "Network.setBlockedURLs", urls=[])
+        self.open("let $a := 1\nreturn cuont($a)")
+        self.assertEqual(self.all(".CodeMirror"), [])
+        self.assertIn("line 2, column 8: ", self.text("words"))
+        self.click("place")
+        self.assertEqual(self.browser.evaluate("getSelection().toString()"), "c")
+        self.browser.evaluate("document.getElementById('query').select()")
+        self.browser.type("6 * 7")
+        self.browser.press("Enter", devtools.CTRL)
+        self.answer()
+        self.assertEqual(self.rows(), ["42"])
+        self.click("new-query")
+        self.tab(0)
+        self.assertEqual(self.written(), "6 * 7")
 
 
 class Documents(ToolsTest):
