@@ -20,7 +20,7 @@ from xqs.endings import (
     retry_delays,
 )
 from xqs.errors import Closed, Lost, TimedOut, XqError
-from xqs.requests import LIST, PROBE, SHOWN, InFlight, Request, TextFuture, Waiting
+from xqs.requests import LIST, SHOWN, InFlight, Request, TextFuture, Waiting, query_of
 from xqs.streams import Stream, open_stream
 from xqs.watch import Watch
 
@@ -212,7 +212,7 @@ class Link:
         if stream is not None:
             stream.wake()
         try:
-            self.send(PROBE, None).result()
+            self.send(query_of("()"), None).result()
         except Lost:
             pass
         finally:
