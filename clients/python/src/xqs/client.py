@@ -118,6 +118,7 @@ class Client:
 
     def store(self, address: str, query: str, *, timeout: float | None = None) -> bool:
         """Stores the document that the query gives; whether it replaced another one."""
+        check_lasting(address)
         return self.request(store_of(address, query), timeout) == "replaced"
 
     def drop(self, address: str, *, timeout: float | None = None) -> None:
