@@ -8,24 +8,28 @@ import pathlib
 import struct
 import subprocess
 import sys
+from collections.abc import Iterable
+from typing import IO, Any, TypeAlias
 
 TOP = pathlib.Path(__file__).resolve().parent.parent
 LIBRARY = (b'document {element lib {element book {attribute id {"1"}, text {"A"}}, '
            b'element book {attribute id {"2"}, text {"B"}}}}')
 TAG = 7
+Reply: TypeAlias = tuple[int, bytes]
+"""The status and the text of a reply."""
 
 
-def frame(kind, body=b""):
+def frame(kind: bytes, body: bytes = b"") -> bytes:
     """The frame of a request: its length, tag and kind, and the body."""
     return struct.pack(">II", len(body) + 5, TAG) + kind + body
 
 
-def store(address, text):
+def store(address: bytes, text: bytes) -> bytes:
     """The body of a store: the address after its length, and the query."""
     return bytes([len(address)]) + address + text
 
 
-def built():
+def built() -> pathlib.Path:
     """The path of the program, which is proved and built first where it is not there."""
     path = TOP / "crates" / "xq_serve" / "out" / "xq_serve"
     if not path.exists():
@@ -34,33 +38,42 @@ def built():
     return path
 
 
+def _there(stream: IO[bytes] | None) -> IO[bytes]:
+    assert stream is not None
+    return stream
+
+
 class Server:
     """A running server. It may end or be killed at any time: what is sent then is lost."""
 
-    def __init__(self, command, **how):
-        self.process = subprocess.Popen(
-            [os.fspath(word) for word in command], stdin=subprocess.PIPE,
+    def __init__(self, command: Iterable[object], **how: Any) -> None:
+        """The words of the command are texts or paths; `how` are further words of Popen."""
+        self.process: subprocess.Popen[bytes] = subprocess.Popen(
+            [str(word) for word in command], stdin=subprocess.PIPE,
             stdout=subprocess.PIPE, stderr=subprocess.PIPE, bufsize=0, **how)
+        self._in = _there(self.process.stdin)
+        self._out = _there(self.process.stdout)
+        self._errors = _there(self.process.stderr)
 
-    def send(self, data):
+    def send(self, data: bytes) -> None:
         """Sends bytes, as far as the server takes them."""
         try:
             while data:
-                data = data[os.write(self.process.stdin.fileno(), data):]
+                data = data[os.write(self._in.fileno(), data):]
         except BrokenPipeError:
             pass
 
-    def read(self, count):
+    def read(self, count: int) -> bytes:
         """So many bytes of replies, or fewer where the server ends."""
         data = bytearray()
         while len(data) < count:
-            piece = os.read(self.process.stdout.fileno(), count - len(data))
+            piece = os.read(self._out.fileno(), count - len(data))
             if not piece:
                 break
             data += piece
         return bytes(data)
 
-    def reply(self):
+    def reply(self) -> Reply | None:
         """The next reply, status and text, or None where the server ends before its last byte."""
         head = self.read(4)
         if len(head) < 4:
@@ -73,21 +86,21 @@ class Server:
             sys.exit("a reply with another tag: %s" % message[:40].hex())
         return message[4], message[5:]
 
-    def ask(self, kind, body=b""):
+    def ask(self, kind: bytes, body: bytes = b"") -> Reply | None:
         """Sends a request, and waits for its reply."""
         self.send(frame(kind, body))
         return self.reply()
 
-    def end(self):
+    def end(self) -> tuple[int, str]:
         """Ends the input, and gives the exit status and what stood on standard error."""
-        self.process.stdin.close()
-        self.process.stdout.read()
-        line = self.process.stderr.read().decode()
-        self.process.stdout.close()
-        self.process.stderr.close()
+        self._in.close()
+        self._out.read()
+        line = self._errors.read().decode()
+        self._out.close()
+        self._errors.close()
         return self.process.wait(), line
 
-    def kill(self):
+    def kill(self) -> None:
         """Ends the process at once, wherever it is, and waits until it has ended."""
         self.process.kill()
         self.process.wait()
