@@ -11,7 +11,7 @@ from typing import BinaryIO, Protocol
 
 from xqs.constructor_reader import NOT_ONE, ConstructorReader
 from xqs.faults import PlacedFault, line_and_column
-from xqs.parts import PART_BYTES, DocumentText, Part, TooLarge
+from xqs.parts import PART_BYTES, DocumentText, NotADocument, Part, TooLarge
 from xqs.prefixed import PrefixFault, flat_query
 from xqs.protocol import MAX_ADDRESS, MAX_REQUEST
 from xqs.temporary import Temporary
@@ -139,7 +139,7 @@ class ConstructorDocument(PrintedDocument):
 def constructor_parts(document: DocumentText, steps: Iterable[Event]) -> Iterator[Part]:
     """The parts of a document of printed nodes.
 
-    ValueError where they are not one document, or it has too many nodes or too deep ones.
+    NotADocument where they are no document, TooLarge where it has too many nodes or too deep ones.
     """
     rest = iter(steps)
     _expect(next(rest, None) == Open(NodeKind.DOCUMENT, ""))
@@ -155,7 +155,7 @@ def constructor_parts(document: DocumentText, steps: Iterable[Event]) -> Iterato
 
 def _expect(holds: bool) -> None:
     if not holds:
-        raise ValueError(NOT_ONE)
+        raise NotADocument(NOT_ONE)
 
 
 def incoming(

@@ -7,6 +7,7 @@ then asks for. Parts may ask for other parts. Nothing here reads or writes.
 
 from dataclasses import dataclass
 
+from xqs.errors import XqError
 from xqs.protocol import MAX_LEVEL, MAX_NODES
 from xqs.temporary import Temporary
 from xqs.values import Atom, Close, Event, Leaf, NodeKind, Open, quoted
@@ -15,8 +16,12 @@ PART_BYTES = 900_000
 """The longest text of a part, more or less; a request holds 1,048,626 bytes of it at least."""
 
 
-class TooLarge(ValueError):
+class TooLarge(XqError, ValueError):
     """A document with more nodes, or deeper ones, than the server takes."""
+
+
+class NotADocument(XqError, ValueError):
+    """What is to be stored is anything else than one document."""
 
 
 @dataclass(frozen=True, slots=True)
@@ -186,7 +191,7 @@ class DocumentText:
     def event(self, event: Event) -> None:
         """A step through printed nodes, those of the document itself aside.
 
-        ValueError for an atomic value, and for an attribute that is no element's.
+        NotADocument for an atomic value, and for an attribute that is no element's.
         """
         match event:
             case Open(NodeKind.ELEMENT, name):
@@ -202,7 +207,7 @@ class DocumentText:
             case Close():
                 self.close()
             case Atom() | _:
-                raise ValueError("what is to be stored is not exactly one document")
+                raise NotADocument("what is to be stored is not exactly one document")
 
     def take_parts(self) -> list[Part]:
         """The parts that have to be stored next, in this order."""

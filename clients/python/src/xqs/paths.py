@@ -10,13 +10,14 @@ import re
 from pathlib import PurePosixPath
 
 from xqs import protocol
+from xqs.errors import XqError
 
 _ESCAPED = re.compile(r"_x([0-9A-F]{4,6})_")
 _TO_ESCAPE = re.compile(r"[^A-Za-z0-9._/-]|_(?=x[0-9A-F]{4,6}_)")
 _LONGEST_NAME = 255
 
 
-class NoPath(ValueError):
+class NoPath(XqError, ValueError):
     """An address that no file below a folder can stand for."""
 
 

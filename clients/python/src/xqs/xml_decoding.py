@@ -8,6 +8,8 @@ import codecs
 import re
 from xml.parsers import expat
 
+from xqs.errors import XqError
+
 MARK = "\uffff"
 """Stands for bytes that are no text of their encoding. No XML has it, so that the parser refuses
 it, at its place."""
@@ -41,7 +43,7 @@ _LEAST = len("<?xml ".encode("utf-32-be"))
 """So many bytes tell whether there is a declaration, in each encoding."""
 
 
-class EncodingFault(ValueError):
+class EncodingFault(XqError, ValueError):
     """An encoding that is not known, or that the bytes are not in; with its place, from 1."""
 
     def __init__(self, why: str, line: int = 1, column: int = 1) -> None:

@@ -9,13 +9,15 @@ from collections.abc import Callable
 from typing import NoReturn
 from xml.parsers import expat
 
+from xqs.errors import XqError
+
 _TAG = re.compile(rb"""(?:[^"'>]|"[^"]*"|'[^']*')*+>""")
 _VALUE = re.compile(rb""""[^"]*"|'[^']*'""")
 _REFERENCE = re.compile(rb"&([^#;][^;]*);")
 _PREDEFINED = ("lt", "gt", "amp", "quot", "apos")
 
 
-class EntityFault(ValueError):
+class EntityFault(XqError, ValueError):
     """An entity that is declared where entities are not asked for."""
 
 
@@ -26,7 +28,10 @@ class Doctype:
     """
 
     def __init__(
-        self, parser: expat.XMLParserType, entities: bool, refuse: Callable[[str | Exception], NoReturn]
+        self,
+        parser: expat.XMLParserType,
+        entities: bool,
+        refuse: Callable[[str | Exception], NoReturn],
     ) -> None:
         """Entities that the text declares are refused but where `entities` are asked for."""
         self._parser = parser

@@ -3,6 +3,8 @@
 from collections.abc import Callable
 from enum import StrEnum
 
+from xqs.errors import XqError
+
 NAMESPACE = "xmlns"
 FLAT_COLON = "__"
 """What stands for the colon in flat names: `p:a` is `p__a`, and `xmlns` is `xmlns__`."""
@@ -19,7 +21,11 @@ class Names(StrEnum):
     """`p:a` is stored as `a`, and declarations are dropped; not to be turned back."""
 
 
-class NameFault(ValueError):
+class NoChoice(XqError, ValueError):
+    """A word that is no choice of names."""
+
+
+class NameFault(XqError, ValueError):
     """A name that can't be stored under the choice that was made."""
 
 

@@ -5,7 +5,7 @@ from collections.abc import Callable, Iterator
 
 from xqs.errors import XqError
 from xqs.values import Atom, Close, Event, Item, Leaf, Node, NodeKind, Open
-from xqs.xml_names import outgoing
+from xqs.xml_names import NoChoice, outgoing
 
 DECLARATION = '<?xml version="1.0" encoding="UTF-8"?>\n'
 _IN_TEXT = str.maketrans({"&": "&amp;", "<": "&lt;", ">": "&gt;", "\r": "&#xD;"})
@@ -21,10 +21,10 @@ class NotXml(XqError, ValueError):
 
 
 def is_flat(names: str) -> bool:
-    """Whether names with a prefix are wanted in place of flat ones; ValueError for a word that is
+    """Whether names with a prefix are wanted in place of flat ones; NoChoice for a word that is
     neither `keep` nor `flat`."""
     if names not in (KEEP, FLAT):
-        raise ValueError(f"names are kept or flat, not {names!r}")
+        raise NoChoice(f"names are kept or flat, not {names!r}")
     return names == FLAT
 
 
