@@ -26,6 +26,7 @@ _TOKEN = re.compile(
 )
 _REFERENCE = re.compile(r"&(?:(lt|gt|amp|quot|apos)|#([0-9]+)|#x([0-9a-fA-F]+));|&")
 _PREDEFINED = {"lt": "<", "gt": ">", "amp": "&", "quot": '"', "apos": "'"}
+_KINDS = {it.value: it for it in NodeKind}
 _NAMED = frozenset((NodeKind.ELEMENT, NodeKind.ATTRIBUTE, NodeKind.INSTRUCTION))
 NOT_ONE = "what is to be stored is not exactly one document"
 
@@ -56,6 +57,7 @@ class ConstructorReader:
         self._stored: dict[str, str] = {}
         self._at = 0
         self._stack: list[_Parent] = []
+        self._events: list[Event] = []
         self._wants_comma = self._after_comma = self._is_over = False
 
     def fault(self, why: str) -> PlacedFault:
@@ -64,18 +66,20 @@ class ConstructorReader:
 
     def __iter__(self) -> Iterator[Event]:
         end = len(self._text)
-        takes: dict[str, Callable[[re.Match[str]], Iterator[Event]]] = {
+        takes: dict[str, Callable[[re.Match[str]], None]] = {
             "close": self._close, "comma": self._comma, "string": self._string,
-            "value": self._leaf, "head": self._open,
+            "value": self._leaf, "head": self._open, "kind": self._open, "name": self._open,
+            "space": lambda _: None,
         }
         while self._at < end:
             found = _TOKEN.match(self._text, self._at)
             if found is None:
                 self._at = self._comment()
                 continue
-            group = found.lastgroup or ""
-            if group != "space":
-                yield from takes["head" if group in ("kind", "name") else group](found)
+            takes[found.lastgroup or ""](found)
+            if self._events:
+                yield from self._events
+                self._events.clear()
             self._at = found.end()
         if not self._is_over:
             raise self.fault("the text ends inside of a constructor" if self._stack else NOT_ONE)
@@ -100,46 +104,45 @@ class ConstructorReader:
             raise self.fault(f"the constructor {parent.kind} holds strings, and here is {kind}")
         return parent
 
-    def _string(self, found: re.Match[str]) -> Iterator[Event]:
+    def _string(self, found: re.Match[str]) -> None:
         parent = self._item(None)
         assert parent is not None
         parent.strings.append(self._value(found, "string"))
-        return iter(())
 
-    def _open(self, found: re.Match[str]) -> Iterator[Event]:
+    def _open(self, found: re.Match[str]) -> None:
         kind, name = self._head(found)
         parent = self._item(kind)
         if parent:
-            yield from self._text_of(parent)
+            self._end_text(parent)
             if kind in PARENTS:
                 parent.has_content = True
         self._stack.append(_Parent(kind, name))
         self._wants_comma = False
         if kind in PARENTS:
-            yield Open(kind, name)
+            self._events.append(Open(kind, name))
 
-    def _leaf(self, found: re.Match[str]) -> Iterator[Event]:
+    def _leaf(self, found: re.Match[str]) -> None:
         kind, name = self._head(found)
         if kind in PARENTS:
-            yield from self._open(found)
+            self._open(found)
             self._stack[-1].strings.append(self._value(found, "value"))
-            yield from self._close(found)
+            self._close(found)
             return
         parent = self._item(kind)
         assert parent is not None
-        yield from self._node(parent, kind, name, self._value(found, "value"))
+        self._node(parent, kind, name, self._value(found, "value"))
 
-    def _node(self, parent: _Parent, kind: NodeKind, name: str, value: str) -> Iterator[Event]:
-        yield from self._text_of(parent)
+    def _node(self, parent: _Parent, kind: NodeKind, name: str, value: str) -> None:
+        self._end_text(parent)
         if kind is not NodeKind.ATTRIBUTE:
             parent.has_content = parent.has_content or kind is not NodeKind.TEXT or bool(value)
         elif parent.kind is NodeKind.DOCUMENT:
             raise self.fault("a document has no attributes")
         elif parent.has_content:
             raise self.fault("an attribute stands after other content")
-        yield Leaf(kind, name, value)
+        self._events.append(Leaf(kind, name, value))
 
-    def _close(self, _: re.Match[str]) -> Iterator[Event]:
+    def _close(self, _: re.Match[str]) -> None:
         if not self._stack:
             raise self.fault("a brace closes that was not opened")
         if self._after_comma:
@@ -147,27 +150,26 @@ class ConstructorReader:
         last = self._stack.pop()
         self._wants_comma, self._is_over = True, not self._stack
         if last.kind in PARENTS:
-            yield from self._text_of(last)
-            yield Close()
+            self._end_text(last)
+            self._events.append(Close())
         elif last.strings or last.kind is not NodeKind.TEXT:
-            yield from self._node(self._stack[-1], last.kind, last.name, " ".join(last.strings))
+            self._node(self._stack[-1], last.kind, last.name, " ".join(last.strings))
 
-    def _comma(self, _: re.Match[str]) -> Iterator[Event]:
+    def _comma(self, _: re.Match[str]) -> None:
         if not self._wants_comma:
             raise self.fault("a comma stands before the first item or after another one")
         self._wants_comma, self._after_comma = False, True
-        return iter(())
 
-    def _text_of(self, parent: _Parent) -> Iterator[Event]:
-        """The text that the strings are which stand side by side."""
+    def _end_text(self, parent: _Parent) -> None:
+        """Strings that stand side by side are one text."""
         if parent.strings and parent.kind in PARENTS:
             text = " ".join(parent.strings)
             parent.strings.clear()
             parent.has_content = parent.has_content or bool(text)
-            yield Leaf(NodeKind.TEXT, "", text)
+            self._events.append(Leaf(NodeKind.TEXT, "", text))
 
     def _head(self, found: re.Match[str]) -> tuple[NodeKind, str]:
-        kind, name = NodeKind(found["kind"]), found["name"] or ""
+        kind, name = _KINDS[found["kind"]], found["name"] or ""
         if (kind in _NAMED) != bool(name):
             raise self.fault(f"the name of the {kind} is missing")
         if ":" not in name and name != NAMESPACE:
