@@ -22,7 +22,7 @@ class _Open:
 
 
 class LineWriter:
-    """Takes the events of one item.
+    """Takes the events of items, one after the other.
 
     A line begins before each child of an element that holds no text but white space, and before its
     end. Nothing in an element with other texts, or with `xml:space="preserve"`, begins a line.
@@ -58,14 +58,22 @@ class LineWriter:
             case Close():
                 self._close(begin)
 
-    def lines(self) -> list[Line]:
-        """The lines with their depths, once the item has ended."""
-        ends = [at for at, _ in self._breaks[1:]] + [len(self._pieces)]
-        return [
-            (depth, "".join(self._pieces[at:end]))
-            for (at, depth), end in zip(self._breaks, ends, strict=True)
-            if at < end
-        ]
+    def take_lines(self) -> list[Line]:
+        """The lines of the item with their depths, once it has ended; the next one may follow."""
+        pieces, breaks = self._pieces, self._breaks
+        if len(breaks) == 1:
+            lines = [(0, "".join(pieces))] if pieces else []
+        else:
+            ends = [at for at, _ in breaks[1:]] + [len(pieces)]
+            lines = [
+                (depth, "".join(pieces[at:end]))
+                for (at, depth), end in zip(breaks, ends, strict=True)
+                if at < end
+            ]
+        pieces.clear()
+        self._breaks = [(0, 0)]
+        self._is_document = False
+        return lines
 
     def _attribute(self, name: str, value: str) -> None:
         if self._open and value == "preserve" and name in ("xml:space", "xml__space"):

@@ -1,7 +1,8 @@
 """A sequence as a table: elements with the same parts, or texts with numbers, in turns."""
 
 import re
-from collections.abc import Sequence
+from collections.abc import Iterable, Iterator, Sequence
+from itertools import chain
 from typing import TypedDict
 
 from xqs.values import Item, Node, NodeKind
@@ -22,14 +23,19 @@ class Table(TypedDict):
     rows: list[list[str | None]]
 
 
-def table_of(items: Sequence[Item], names: str) -> Table | None:
+def table_of(items: Iterable[Item], names: str) -> Table | None:
     """The items as a table, or None where they make none.
 
     Each element is a row. Its columns are its attributes, as `@NAME`, and the elements in it, of
     which none comes twice and none holds others. Of elements with a text alone that is the column.
     A text and a number in turns are rows of two columns.
     """
-    rows = _pairs(items) or _elements(items, names)
+    rest = iter(items)
+    first = next(rest, None)
+    if first is None:
+        return None
+    rows = _elements(chain([first], rest), names) if isinstance(first, Node) else _pairs(
+        chain([first], rest))
     if not rows:
         return None
     columns = list(dict.fromkeys(name for row in rows for name in row))
@@ -45,28 +51,19 @@ def _kind(cells: Sequence[str | None]) -> str:
     return "number" if given and all(map(NUMBER.fullmatch, given)) else "text"
 
 
-def _pairs(items: Sequence[Item]) -> list[Row]:
-    """Rows of a text and a number each, in either order all the same; none where it is not so."""
-    firsts, seconds = items[0::2], items[1::2]
-    if not seconds or len(firsts) != len(seconds):
-        return []
-    if not (_are_texts(firsts) and _are_numbers(seconds)):
-        return []
-    return [
-        {"1": atom_text(first), "2": atom_text(second)}
-        for first, second in zip(firsts, seconds, strict=True)
-    ]
+def _pairs(items: Iterator[Item]) -> list[Row]:
+    """Rows of a text and a number each; none where it is not so."""
+    rows: list[Row] = []
+    for text in items:
+        number = next(items, None)
+        if not isinstance(text, str) or number is None or isinstance(number, str | Node | bool):
+            return []
+        rows.append({"1": atom_text(text), "2": atom_text(number)})
+    return rows
 
 
-def _are_texts(items: Sequence[Item]) -> bool:
-    return all(isinstance(it, str) for it in items)
-
-
-def _are_numbers(items: Sequence[Item]) -> bool:
-    return not any(isinstance(it, str | Node | bool) for it in items)
-
-
-def _elements(items: Sequence[Item], names: str) -> list[Row]:
+def _elements(items: Iterable[Item], names: str) -> list[Row]:
+    """A row for each element; none where one of them makes no row, or another one."""
     rows: list[Row] = []
     for item in items:
         row = _row(item, names)

@@ -5,34 +5,36 @@ and puts those into the page as they are.
 """
 
 import json
-from collections.abc import Callable, Iterator
+from collections.abc import Callable
 
 from xqs.prefixed import told
-from xqs.values import Atom, Close, Event, Leaf, NodeKind, Open, events, values
+from xqs.values import Atom, Close, Event, Leaf, NodeKind, Open, events, items
 from xqs.web_forms import type_of
 from xqs.web_lines import LineWriter
 from xqs.web_table import table_of
 from xqs.xml_out import atom_text, speller
 
 json_text = json.JSONEncoder(ensure_ascii=False).encode
-"""A text as a string of JSON."""
-LONGEST_TABLE = 4_000_000
+"""A value as JSON."""
+LONGEST_TABLE = 1_000_000
 """Replies of at most so many characters are looked at for a table."""
 
 
-class _Item:
-    """Writes one item of an answer."""
+class _ItemWriter:
+    """Writes the items of an answer, one after the other."""
 
-    def __init__(self, first: Event, names: str) -> None:
-        self._type = type_of(first)
+    def __init__(self, names: str, is_page: bool) -> None:
+        self._is_page = is_page
         self._lines = LineWriter(names)
         self._name = speller(names)
+        self._type = ""
         self._texts: list[str] = []
         self._tree: list[str] = []
         self._heads: list[_Head] = []
 
     def event(self, event: Event) -> bool:
         """Takes the next event; whether the item ends with it."""
+        self._type = self._type or type_of(event)
         self._lines.event(event)
         match event:
             case Open(kind, name):
@@ -63,16 +65,19 @@ class _Item:
             self._texts.append(value)
         self._tree.append(f"[{json_text(kind)},{json_text(name)},{json_text(value)}]")
 
-    def write(self, write: Callable[[str], object], is_page: bool) -> None:
-        """Writes the item, once it has ended."""
-        lines = self._lines.lines()
+    def write(self, write: Callable[[str], object]) -> None:
+        """Writes the item, once it has ended; the next one may follow."""
+        lines = self._lines.take_lines()
         text = json_text("".join(self._texts))
         write(f'{{"type":"{self._type}","text":{text},"xml":')
-        if not is_page:
-            write(json_text("".join(line for _, line in lines)) + "}")
-            return
-        write("[" + ",".join(f"{depth},{json_text(line)}" for depth, line in lines))
-        write(f'],"tree":{"".join(self._tree) or "null"}}}')
+        if self._is_page:
+            write("[" + ",".join([f"{depth},{json_text(line)}" for depth, line in lines]))
+            write(f'],"tree":{"".join(self._tree) or "null"}}}')
+        else:
+            write(json_text("".join([line for _, line in lines])) + "}")
+        self._type = ""
+        self._texts.clear()
+        self._tree.clear()
 
 
 class _Head:
@@ -84,13 +89,15 @@ class _Head:
         self.attributes = self.children = 0
 
 
-def _items(text: str, names: str) -> Iterator[_Item]:
-    item: _Item | None = None
+def _written_items(text: str, names: str, is_page: bool) -> str:
+    """The items as the elements of an array, without its brackets."""
+    out: list[str] = []
+    item = _ItemWriter(names, is_page)
     for event in events(text):
-        item = item or _Item(event, names)
         if item.event(event):
-            yield item
-            item = None
+            item.write(out.append)
+            out.append(",")
+    return "".join(out[:-1])
 
 
 def as_json(text: str, names: str) -> str:
@@ -98,11 +105,7 @@ def as_json(text: str, names: str) -> str:
 
     Misspelt where the text is no printed value.
     """
-    out: list[str] = []
-    for item in _items(text, names):
-        out.append("," if out else "[")
-        item.write(out.append, False)
-    return "".join(out) + "]" if out else "[]"
+    return f"[{_written_items(text, names, False)}]"
 
 
 def as_page_json(text: str, names: str) -> str:
@@ -114,11 +117,7 @@ def as_page_json(text: str, names: str) -> str:
     name, [name, value, ..], [tree, ..]]` for a document or an element, and null for an atomic
     value. `table` is null, or the items in rows.
     """
-    out = [f'{{"constructors":{json_text(told(text, names))},"items":[']
-    for number, item in enumerate(_items(text, names)):
-        if number:
-            out.append(",")
-        item.write(out.append, True)
-    table = table_of(values(text), names) if len(text) <= LONGEST_TABLE else None
-    out.append(f'],"table":{json.dumps(table, ensure_ascii=False)}}}')
-    return "".join(out)
+    table = table_of(items(text), names) if len(text) <= LONGEST_TABLE else None
+    return (f'{{"constructors":{json_text(told(text, names))},'
+            f'"items":[{_written_items(text, names, True)}],'
+            f'"table":{json_text(table)}}}')
