@@ -98,7 +98,8 @@ class LinesTest(unittest.TestCase):
 
     def test_a_mixed_element_among_others(self) -> None:
         self.assertEqual(
-            self.lines('element a {element b {text {"x"}, element c {}}, element d {element e {}}}'),
+            self.lines('element a {element b {text {"x"}, element c {}}, '
+                       'element d {element e {}}}'),
             [(0, "<a>"), (1, "<b>x<c/></b>"), (1, "<d>"), (2, "<e/>"), (1, "</d>"), (0, "</a>")])
 
 

@@ -205,7 +205,8 @@ class Tables(ToolsTest):
         self.click("tab-table")
         self.assertEqual(self.all("#panel th"), ["@year", "from", "words"])
         with connect(self.place) as client:
-            texts = client.query(f"for $r in ({ROWS}) return ($r/@year, $r/from, $r/words)/string()")
+            texts = client.query(
+                f"for $r in ({ROWS}) return ($r/@year, $r/from, $r/words)/string()")
         self.assertEqual(self.all("#panel td"), texts)
         csv = self.copied("table").split("\r\n")
         self.assertEqual(csv[0], "@year,from,words")
@@ -246,7 +247,8 @@ class Files(ToolsTest):
 
     def choose(self, field: str, paths: list[str]) -> None:
         """Chooses files in a field, and waits until they are stored or refused."""
-        node = self.browser.call("Runtime.evaluate", expression=f"document.getElementById('{field}')")
+        node = self.browser.call(
+            "Runtime.evaluate", expression=f"document.getElementById('{field}')")
         self.browser.evaluate("document.getElementById('upload-note').textContent = ''")
         self.browser.call("DOM.setFileInputFiles", files=paths,
                           objectId=node["result"]["objectId"])

@@ -45,7 +45,7 @@ NODES = (
     'document {element a {}}, "{", 1, attribute b {"c"}, comment {"d"}, true()',
     'element deep {element b {element c {element d {element e {element f {"{}"}}}}}}',
 )
-LONG = 'string-join(for $n in 1 to 110000 return "{<é&amp;}""0123456789012345678901234567890123456")'
+LONG = 'string-join(for $n in 1 to 120000 return "{<é&amp;}""01234567890123456789012345678901")'
 
 
 def literal(text: str) -> str:

@@ -297,7 +297,8 @@ class Limits(WebTest):
 
     def test_a_query_ends_with_its_client(self) -> None:
         with RunningWeb("--seconds", "0") as web:
-            for method, path, body in (("GET", asked(ENDLESS), b""), ("POST", "/rest", ENDLESS.encode())):
+            for method, path, body in (
+                    ("GET", asked(ENDLESS), b""), ("POST", "/rest", ENDLESS.encode())):
                 host, _, port = web.host.rpartition(":")
                 head = (f"{method} {path} HTTP/1.1\r\nHost: {web.host}\r\n"
                         f"Content-Type: {XQUERY}\r\nContent-Length: {len(body)}\r\n\r\n")

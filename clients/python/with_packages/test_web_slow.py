@@ -87,8 +87,8 @@ class Slow(SlowTest):
 
     def test_a_slow_reader_gets_all_of_its_answer(self) -> None:
         reader = self.connect()
-        reader.sendall(self.head("GET", asked('string-join(for $x in 1 to 40000 return "abcdefgh")'),
-                                 "Connection: close"))
+        query = 'string-join(for $x in 1 to 40000 return "abcdefgh")'
+        reader.sendall(self.head("GET", asked(query), "Connection: close"))
         size = 0
         while piece := reader.recv(40_000):
             size += len(piece)

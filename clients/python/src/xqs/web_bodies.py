@@ -43,8 +43,8 @@ def charset_of(request: web.Request) -> str | None:
 async def receive(request: web.Request, body: BinaryIO, most: int, wait: float) -> None:
     """Takes the body of a request into a file, within limits of size and time.
 
-    HttpRefusal 413 beyond `most` bytes, and 408 where nothing comes for `wait` seconds or less comes
-    than LEAST_RATE.
+    HttpRefusal 413 beyond `most` bytes, and 408 where nothing comes for `wait` seconds, or less
+    than LEAST_RATE over all.
     """
     size, begin = request.content_length or 0, time.monotonic()
     while size <= most:

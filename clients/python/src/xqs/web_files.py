@@ -24,7 +24,8 @@ def addresses_as_json(body: bytes) -> str:
         paths, prefix = asked["paths"], asked["prefix"]
         found = [_address(str(path), str(prefix)) for path in paths]
     except (ValueError, KeyError, TypeError, RecursionError) as error:
-        raise HttpRefusal(400, "xqs:REQUEST", f"the body has paths and a prefix: {error}") from error
+        sentence = f"the body has paths and a prefix: {error}"
+        raise HttpRefusal(400, "xqs:REQUEST", sentence) from error
     return json.dumps(found)
 
 

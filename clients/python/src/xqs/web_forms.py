@@ -90,7 +90,8 @@ class Judge:
             case Open():
                 self._elements += self._depth == self._top
             case Leaf(kind, _, value):
-                is_outside = self._depth == 0 or (kind is NodeKind.TEXT and self._depth == self._top)
+                is_at_top = self._depth == self._top and kind is NodeKind.TEXT
+                is_outside = self._depth == 0 or is_at_top
                 has_return = kind in _VERBATIM and "\r" in value
                 self._has_other |= is_outside or has_return
         self._depth += isinstance(event, Open) - isinstance(event, Close)

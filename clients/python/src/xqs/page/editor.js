@@ -2,7 +2,9 @@
 
 import {at} from "./dom.js";
 
-const KEYS = {"Ctrl-Space": "autocomplete", "Alt-/": "autocomplete", Tab: false, "Shift-Tab": false};
+const KEYS = {
+  "Ctrl-Space": "autocomplete", "Alt-/": "autocomplete", Tab: false, "Shift-Tab": false,
+};
 const IN_DOC = /\bdoc(?:-available)?\(\s*["']([^"']*)$/;
 
 class PlainEditor {

@@ -23,7 +23,8 @@ function inlineText([, , , children]) {
 }
 
 // A text of white space alone, with signs in its place.
-const blanks = text => text.replaceAll(" ", "·").replaceAll("\t", "→").replaceAll(/\r?\n|\r/g, "↵");
+const blanks = text => text.replaceAll(" ", "·").replaceAll("\t", "→")
+  .replaceAll(/\r?\n|\r/g, "↵");
 
 function tagParts(node) {
   const [, name, attributes, children] = node, parts = [span("name", `<${name}`)];

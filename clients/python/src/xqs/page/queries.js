@@ -51,7 +51,7 @@ export class Queries {
     this.choose(this.tabs.at(-1));
   }
 
-  /** Shows a query in the tab that has it, else in one that has none of the user's, or a new one. */
+  /** Shows a query: in the tab that has it, in one without any of the user's, or in a new one. */
   put(text) {
     const tab = this.tabs.find(it => it.text === text);
     if (tab) this.choose(tab);
