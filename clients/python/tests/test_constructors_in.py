@@ -18,7 +18,8 @@ WRITTEN = {
     " document{ } (: c (: d :) :)\r\n": "document {}",
     'document {element a {attribute b {"1"}, "x", "y", text {"z"}, comment {}}}':
         'document {element a {attribute b {"1"}, text {"x yz"}, comment {""}}}',
-    "document {\n  element a {'it''s &lt;&#65;&#x42;&quot;',\r\n    element b {\"\"\"\"}, \r text {}}}":
+    "document {\n  element a {'it''s &lt;&#65;&#x42;&quot;',\r\n    "
+    "element b {\"\"\"\"}, \r text {}}}":
         'document {element a {text {"it\'s <AB"""}, element b {text {""""}}}}',
     'document {text {"a", \'b\'}, "c", element text {element element {}}}':
         'document {text {"a bc"}, element text {element element {}}}',
@@ -75,8 +76,8 @@ class Reading(unittest.TestCase):
         def kind(data: bytes, source: str = "a.xml", by_name: bool = True) -> str:
             return type(incoming(io.BytesIO(data), source, Temporary(), by_name=by_name)).__name__
 
-        for data in (b"<a/>", b"\n<a/>", b"\xef\xbb\xbf\n <a/>", "<a/>".encode("utf-16"), b"", b" \n",
-                     "<a/>".encode("utf-16-be"), "<?xml?>".encode("cp037")):
+        for data in (b"<a/>", b"\n<a/>", b"\xef\xbb\xbf\n <a/>", b"", b" \n",
+                     "<a/>".encode("utf-16"), "<a/>".encode("utf-16-be"), "<?xml?>".encode("cp037")):
             for source in ("a.xml", "a.xq", "a"):
                 self.assertEqual(kind(data, source), "XmlDocument", data)
                 self.assertEqual(kind(data, source, False), "XmlDocument", data)

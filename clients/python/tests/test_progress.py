@@ -61,7 +61,8 @@ class Bars(CommandTest):
         file = self.write("a.xml", f"<a>{books}</a>")
         query = self.write("b.xq", large(4_000))
         bar, left = r"\[#+\.*\] [0-9.]+ MB/s, ", r"\d+:\d\d left"
-        self.assertRegex(self.drawn("store", "a", str(file)), rf"(?s){bar}{left}.*joining \d+ parts")
+        drawn = self.drawn("store", "a", str(file))
+        self.assertRegex(drawn, rf"(?s){bar}{left}.*joining \d+ parts")
         self.assertRegex(self.drawn("store", "b", str(query)), bar + left)
         self.assertRegex(self.drawn("load", str(self.folder / "in"), "--as", "l"), "1/1 " + bar)
         with mock.patch("xqs.fetch._text_or_none", short_text):
@@ -113,8 +114,8 @@ class Switches(CommandTest):
         entity = '<!DOCTYPE a [<!ENTITY e "x">]>'
         for path, text in {
             "good.xml": "<a/>", "cut.xml": "<a>", "1.xml": "<p:a/>", "2.xml": "<a xmlns='u'/>",
-            "3.xml": "<p:a__b/>", "4.xml": f"{entity}<a>&e;</a>", "5.xml": f"{entity}<p:a>&e;</p:a>",
-            "6.xml": "<a p:x='1' x='2'/>",
+            "3.xml": "<p:a__b/>", "4.xml": f"{entity}<a>&e;</a>",
+            "5.xml": f"{entity}<p:a>&e;</p:a>", "6.xml": "<a p:x='1' x='2'/>",
         }.items():
             self.write(path, text)
         told = self.run_command("load", self.folder / "in")[2]

@@ -244,4 +244,3 @@ class DocumentText:
         held = [self._stored(f"document {{text {{{quoted(it)}}}}}") for it in pieces]
         documents = ", ".join(f'doc("{address}")' for address in held)
         return f'{head}string-join(({documents}), "")}}'
-
