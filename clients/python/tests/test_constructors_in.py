@@ -77,7 +77,8 @@ class Reading(unittest.TestCase):
             return type(incoming(io.BytesIO(data), source, Temporary(), by_name=by_name)).__name__
 
         for data in (b"<a/>", b"\n<a/>", b"\xef\xbb\xbf\n <a/>", b"", b" \n",
-                     "<a/>".encode("utf-16"), "<a/>".encode("utf-16-be"), "<?xml?>".encode("cp037")):
+                     "<a/>".encode("utf-16"), "<a/>".encode("utf-16-be"),
+                     "<?xml?>".encode("cp037")):
             for source in ("a.xml", "a.xq", "a"):
                 self.assertEqual(kind(data, source), "XmlDocument", data)
                 self.assertEqual(kind(data, source, False), "XmlDocument", data)
