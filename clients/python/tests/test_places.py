@@ -151,6 +151,7 @@ def mutated(chosen: random.Random, text: str) -> str:
 
 
 class Tables(unittest.TestCase):
+    @unittest.skipUnless((TOP / "crates").exists(), "a release has no definitions of the server")
     def test_the_client_has_the_tables_of_the_server(self) -> None:
         script = TOP / "tools" / "client_tables.py"
         found = subprocess.run([sys.executable, script, "--check"], capture_output=True, text=True)
