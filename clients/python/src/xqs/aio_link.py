@@ -87,7 +87,10 @@ class AsyncLink:
 
     def _put(self, stream: AsyncStream, again: list[Waiting[Text]]) -> None:
         """Sends these first by a new stream."""
-        for waiting in (*self.watch.probes(self._loop.create_future()), *again):
+        probed: Text = self._loop.create_future()
+        # (asyncio complains of errors that nobody looks at)
+        probed.add_done_callback(lambda it: it.cancelled() or it.exception())
+        for waiting in (*self.watch.probes(probed), *again):
             stream.send(self._in_flight.begin(waiting))
 
     def _look(self) -> None:

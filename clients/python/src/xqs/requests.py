@@ -162,7 +162,7 @@ class InFlight(Generic[F]):
         waiting = self._waiting.pop(protocol.tag_of(message))
         self._since = time.monotonic()
         request = waiting.request
-        if request.changes and message[4] == Status.DONE:
+        if request.address and message[4] == Status.DONE:
             (self.stored.add if request.kind is Kind.STORE else self.stored.discard)(
                 request.address)
         return waiting

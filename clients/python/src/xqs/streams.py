@@ -81,7 +81,10 @@ class Stream:
         if self._rest and not self._is_finished:
             ready = self._send_on(deadline)
         else:
-            ready = dict(self._poller.poll(_milliseconds(deadline)))
+            events = self._poller.poll(_milliseconds(deadline))
+            if len(events) == 1 and events[0][0] == self._reading:
+                return self._read(PIECE)
+            ready = dict(events)
         if self._woken in ready:
             os.read(self._woken, 1 << 12)
         if not ready.get(self._reading, 0) & ~select.POLLOUT:

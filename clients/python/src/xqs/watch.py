@@ -61,7 +61,7 @@ class Watch(Generic[F]):
         wakes nobody, and is due after this at the soonest.
         """
         front = self.in_flight.front()
-        if front is None or self._is_idle():
+        if front is None or (front.request is PROBE and self._is_idle()):
             if self.closing is not None:
                 return self.closing + END_PATIENCE
             seconds = self.origin.bounds.seconds if self.origin is not None else None
