@@ -71,7 +71,7 @@ class RunningWeb:
             **headers: str) -> Answer:
         """Sends a request, in chunks where the body comes in pieces; `_` in the name of a header
         stands for a hyphen."""
-        connection = http.client.HTTPConnection(self.host, timeout=PATIENCE)
+        connection = http.client.HTTPConnection(self.host, timeout=4 * PATIENCE)
         named = {name.replace("_", "-"): value for name, value in headers.items()}
         data = body.encode() if isinstance(body, str) else body
         try:

@@ -249,6 +249,14 @@ class Methods(WebTest):
                              (method, path, 400, "xqs:REQUEST"))
         self.check(self.web.ask("GET", "/rest/css"), 200, "<style/>")
 
+    def test_bytes_that_are_no_text(self) -> None:
+        for path in ("/rest?query=%FF", "/rest?query=1&$x=%C3", "/rest?%FF=1"):
+            self.check_refused(self.web.ask("GET", path), 400, "prof:UTF8")
+        self.check_refused(self.web.ask("GET", "/rest/%FF"), 400, "prof:ADDRESS")
+        got = self.web.ask("GET", "/rest", Host="l\xde")
+        self.check_refused(got, 403, "xqs:HOST")
+        self.check(self.web.ask("GET", asked("'a+b c&amp;%2B'")), 200, "a+b c&%2B")
+
     def test_the_methods_of_a_path(self) -> None:
         for path, allow in (("/rest", "GET, HEAD, POST, OPTIONS"),
                             ("/rest/a", "GET, HEAD, POST, PUT, DELETE, OPTIONS")):

@@ -37,9 +37,9 @@ say = partial(mux.say, command="web")
 
 def is_own_fault(record: logging.LogRecord) -> bool:
     """Whether a line of aiohttp's log is about this program, and not about a request that was no
-    HTTP: any client can send those, and is told of them."""
+    HTTP, or a client that has gone: any client can do that, and is told of it."""
     error = record.exc_info[1] if record.exc_info else None
-    return not isinstance(error, HttpProcessingError)
+    return not isinstance(error, HttpProcessingError | ConnectionError)
 
 
 @asynccontextmanager

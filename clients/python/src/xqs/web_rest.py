@@ -20,7 +20,7 @@ from xqs.web_bodies import charset_of, media_type, receive, received_query
 from xqs.web_charset import decoded
 from xqs.web_connections import at_work
 from xqs.web_files import ZIP, addresses_as_json, write_archive
-from xqs.web_forms import JSON, LIST_FORMS, XQUERY, chosen, spelled_list
+from xqs.web_forms import JSON, LIST_FORMS, TEXT, XQUERY, chosen, spelled_list
 from xqs.web_guard import CHANGES, NAMES, check_host, check_origin, check_token
 from xqs.web_incoming import Put
 from xqs.web_lists import LIST_PARAMETERS, listing_of
@@ -233,19 +233,17 @@ class Rest:
         async with self._room:
             begin = time.perf_counter()
             try:
-                text = await self._reply(query)
+                async with self._client() as connection:
+                    text = await connection.query_text(query)
+                took = time.perf_counter() - begin
             except Refused as error:
                 if error.code != "prof:REPLY" or not address or not asked.is_whole():
                     raise placed(error, asked.text or "", asked.flattened()) from error
                 body = await asyncio.to_thread(self._in_parts, address, wanted)
+                took = time.perf_counter() - begin
             else:
                 body = await in_thread_if(len(text) > SHORT, answer_of, text, wanted)
-            took = time.perf_counter() - begin
         return await self._send(request, body, {"Server-Timing": f"server;dur={took * 1000:.3f}"})
-
-    async def _reply(self, query: str) -> str:
-        async with self._client() as connection:
-            return await connection.query_text(query)
 
     def _in_parts(self, address: str, wanted: Wanted) -> Body:
         with self._thread_client() as connection:
@@ -305,7 +303,10 @@ class Rest:
 
 def _refused(refusal: HttpRefusal) -> web.Response:
     headers = {CODE: refusal.code, **refusal.headers}
-    return web.Response(status=refusal.status, text=f"{refusal}\n", headers=headers)
+    # A request may have bytes that are no text, which stand in the sentence as escapes.
+    body = f"{refusal}\n".encode(errors="backslashreplace")
+    return web.Response(
+        status=refusal.status, body=body, content_type=TEXT, charset="utf-8", headers=headers)
 
 
 async def _add_headers(_: web.Request, response: web.StreamResponse) -> None:
@@ -315,8 +316,13 @@ async def _add_headers(_: web.Request, response: web.StreamResponse) -> None:
 
 
 def parameters_of(request: web.Request) -> Parameters:
-    """The parameters of a request's URL; HttpRefusal where one is given twice."""
-    return Parameters(request.query.items())
+    """The parameters of a request's URL; HttpRefusal where one is given twice, or is no UTF-8."""
+    text = request.rel_url.raw_query_string
+    try:
+        pairs = urllib.parse.parse_qsl(text, keep_blank_values=True, errors="strict")
+    except ValueError as error:
+        raise HttpRefusal(400, "prof:UTF8", f"a parameter of the URL: {error}") from error
+    return Parameters(pairs)
 
 
 def address_of(request: web.Request) -> str:
