@@ -1,0 +1,106 @@
+#!/usr/bin/env python3
+"""Checks types and style of the Python files of this repository.
+
+    tools/check_python.py [--all]
+
+mypy runs in the root over tools/ and bench/, and in clients/python over the client, each time with
+the pyproject.toml of that folder. pycodestyle and pyflakes go over tools/ and bench/, with --all
+over the client too; a line with `# noqa` stays as it is. A check whose program is not installed is
+left out by name. The status is 1 where there is a finding.
+"""
+
+from __future__ import annotations
+
+import argparse
+import dataclasses
+import pathlib
+import shutil
+import subprocess
+import sys
+from collections.abc import Sequence
+
+TOP = pathlib.Path(__file__).resolve().parent.parent
+INSTALL = "apt-get install mypy pycodestyle pyflakes3"
+# Imports after a line that changes the path, blanks in slices, a line of `def` with its `...`, and
+# breaks beside operators: pycodestyle refuses either side.
+ALLOWED = "E203,E402,E704,W503,W504"
+# The names that a program has, in Debian or elsewhere.
+PYFLAKES = ("pyflakes3", "pyflakes")
+
+
+@dataclasses.dataclass(frozen=True)
+class Check:
+    """A command and the folder that it runs in."""
+
+    programs: Sequence[str]
+    words: Sequence[str]
+    folder: pathlib.Path
+
+
+def checks(top: pathlib.Path, with_client_style: bool) -> list[Check]:
+    """The checks of the repository in this folder."""
+    client = top / "clients" / "python"
+    cache = ("--cache-dir", str(top / "out" / "mypy"))
+    style = (f"--ignore={ALLOWED}", "--max-line-length")
+    found = [
+        Check(("mypy",), cache, top),
+        Check(("mypy",), (*cache, "src"), client),
+        Check(("pycodestyle",), (*style, "99", "tools", "bench"), top),
+        Check(PYFLAKES, ("tools", "bench"), top),
+    ]
+    if with_client_style:
+        found += [Check(("pycodestyle",), (*style, "100", "."), client),
+                  Check(PYFLAKES, (".",), client)]
+    return found
+
+
+def program_of(check: Check) -> str | None:
+    """The path of the program of a check, or None where it is not installed."""
+    return next(filter(None, map(shutil.which, check.programs)), None)
+
+
+def is_excused(line: str, folder: pathlib.Path) -> bool:
+    """Whether a finding is about a line of a file that has `# noqa`."""
+    path, _, rest = line.partition(":")
+    number, _, _ = rest.partition(":")
+    file = folder / path
+    if not number.isdigit() or not file.is_file():
+        return False
+    lines = file.read_text(encoding="utf-8").splitlines()
+    return 0 < int(number) <= len(lines) and "# noqa" in lines[int(number) - 1]
+
+
+def findings(check: Check, program: str) -> list[str]:
+    """What the program says against the files, line by line."""
+    done = subprocess.run(
+        [program, *check.words], cwd=check.folder, stdin=subprocess.DEVNULL,
+        capture_output=True, text=True)
+    if done.returncode == 0:
+        return []
+    said = (done.stdout + done.stderr).splitlines() or [f"{program}: status {done.returncode}"]
+    is_style = check.programs != ("mypy",)
+    return [line for line in said if not (is_style and is_excused(line, check.folder))]
+
+
+def main() -> int:
+    """Runs the checks that are there and prints what they find."""
+    parser = argparse.ArgumentParser(description=__doc__.partition("\n")[0])
+    parser.add_argument("--all", action="store_true", help="the style of the client too")
+    given = parser.parse_args()
+    found: list[str] = []
+    absent: set[str] = set()
+    for check in checks(TOP, given.all):
+        program = program_of(check)
+        if program is None:
+            absent.add(check.programs[0])
+        else:
+            found += findings(check, program)
+    print("\n".join(found), end="\n" if found else "")
+    if absent:
+        print(f"check_python: not installed: {', '.join(sorted(absent))} ({INSTALL})")
+    print(f"check_python: {len(found)} findings")
+    return 1 if found else 0
+
+
+if __name__ == "__main__":
+    sys.exit(main())
