@@ -137,7 +137,7 @@ class Keepers(FolderTest):
         wait_until(lambda: len(running(f"8{os.getpid()}.25")) == 2, "nothing runs")
         stream = client._link.stream
         assert stream is not None and stream.process is not None
-        stream.process.kill()
+        os.kill(stream.process.pid, signal.SIGKILL)
         wait_until(lambda: not running(f"8{os.getpid()}.25"), "the program is left")
         client.kill()
 

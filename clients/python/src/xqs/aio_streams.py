@@ -12,6 +12,24 @@ from xqs.starting import kept
 from xqs.streams import EXIT_PATIENCE, PIECE, not_connected
 
 
+class GroupProcess(asyncio.subprocess.Process):
+    """A process that leads a group: a keeper, with the server below it."""
+
+    def send_signal(self, signal: int) -> None:
+        """Sends the signal to all of the group."""
+        with suppress(ProcessLookupError):
+            if self.returncode is None:
+                os.killpg(self.pid, signal)
+
+    def terminate(self) -> None:
+        """Asks all of the group to end."""
+        self.send_signal(signal.SIGTERM)
+
+    def kill(self) -> None:
+        """Kills all of the group."""
+        self.send_signal(signal.SIGKILL)
+
+
 class AsyncStream:
     """A stream of bytes, and the process at its other end, if that was started here."""
 
@@ -36,9 +54,8 @@ class AsyncStream:
         """Ends the stream at once, and the server with all that it started."""
         if self.process is None:
             self.writer.transport.abort()
-        elif self.process.returncode is None:
-            with suppress(ProcessLookupError):
-                os.killpg(self.process.pid, signal.SIGKILL)
+        else:
+            self.process.kill()
 
     async def close(self) -> int | None:
         """Gives the stream back, after its end; the exit status of its process, if it has one."""
@@ -78,4 +95,5 @@ async def _started(place: Command, bounds: Bounds) -> AsyncStream:
         process_group=0,
     )
     assert process.stdin is not None and process.stdout is not None
+    process.__class__ = GroupProcess  # (asyncio lets nobody say of which class it is made)
     return AsyncStream(process.stdout, process.stdin, process)

@@ -3,7 +3,6 @@ was started. Nothing here waits for longer than it is told to."""
 
 import os
 import select
-import signal
 import socket
 import subprocess
 import threading
@@ -185,6 +184,16 @@ class SocketStream(Stream):
         self._socket.close()
 
 
+class GroupProcess(subprocess.Popen[bytes]):
+    """A process that leads a group: a keeper, with the server below it."""
+
+    def send_signal(self, sig: int) -> None:
+        """Sends the signal to all of the group."""
+        if self.poll() is None:
+            with suppress(ProcessLookupError):
+                os.killpg(self.pid, sig)
+
+
 class ProcessStream(Stream):
     """The standard input and output of a program that was started."""
 
@@ -193,7 +202,7 @@ class ProcessStream(Stream):
     def __init__(self, command: Command, memory: int | None = None) -> None:
         """OSError where it can't be started."""
         # In a group of its own: Ctrl+C at a terminal is for whoever asks, and not for the server.
-        self.process = subprocess.Popen(
+        self.process = GroupProcess(
             kept(command.words, memory),
             stdin=subprocess.PIPE,
             stdout=subprocess.PIPE,
@@ -215,9 +224,7 @@ class ProcessStream(Stream):
 
     def kill(self) -> None:
         """Kills the server, with all that it started."""
-        if self.process.poll() is None:
-            with suppress(ProcessLookupError):
-                os.killpg(self.process.pid, signal.SIGKILL)
+        self.process.kill()
 
     def wait(self) -> None:
         """Waits for the end of the process, which is killed where that doesn't come."""
