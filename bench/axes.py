@@ -26,6 +26,7 @@ import os
 import subprocess
 import sys
 import tempfile
+from typing import TypeAlias
 
 TOP = os.path.join(os.path.dirname(os.path.abspath(__file__)), "..")
 sys.path.insert(0, os.path.join(TOP, "tools"))
@@ -52,29 +53,33 @@ SHORT = 50
 # with many they take the square.
 SINGLY = ("one parent of each tenth element", "siblings after each tenth element")
 
+# By the source and the name of each task: nodes given, microseconds, rows read.
+Table: TypeAlias = dict[tuple[str, str], tuple[int, int, int]]
 
-def once(program, size):
+
+def once(program: str, size: int) -> Table:
     """By the source and the name of each task: nodes given, microseconds, rows read."""
     done = subprocess.run([program], input=b"%d" % size, stdout=subprocess.PIPE, check=True)
-    table = {}
+    table: Table = {}
     for line in done.stdout.decode().splitlines():
         source, name, *numbers = line.split("\t")
         if len(numbers) != 3:
             sys.exit(line)
-        table[source, name] = tuple(int(number) for number in numbers)
+        given, time, read = map(int, numbers)
+        table[source, name] = (given, time, read)
     return table
 
 
-def times(program, size, runs):
+def times(program: str, size: int, runs: int) -> Table:
     """The same, the least microseconds of so many runs."""
     tables = [once(program, size) for _ in range(runs)]
-    least = {}
+    least: Table = {}
     for key, (given, _, read) in tables[0].items():
         least[key] = (given, min(table[key][1] for table in tables), read)
     return least
 
 
-def table_of(source, few, many):
+def table_of(source: str, few: Table, many: Table) -> bool:
     """Prints the table of a source, and tells whether each growth is within the bound."""
     within = True
     print("%-34s %8s %8s %9s %9s %7s %7s" %
@@ -92,7 +97,7 @@ def table_of(source, few, many):
     return within
 
 
-def first_reading(table):
+def first_reading(table: Table) -> bool:
     """Prints what the first reading takes beside the bare statement, and whether that is within
     the bound."""
     given, time, _ = table["bare", FIRST]
@@ -106,7 +111,7 @@ def first_reading(table):
     return ratio <= MOST_FIRST
 
 
-def report(few, many):
+def report(few: Table, many: Table) -> int:
     """Prints the tables, and whether each growth and the first reading are within the bounds."""
     print("plain loop over %d rows: %.2f ms, %d: %.2f ms" %
           (few["bare", LOOP][2], few["bare", LOOP][1] / 1000,
@@ -121,7 +126,7 @@ def report(few, many):
     return 0 if all(grown) and first[-1] else 1
 
 
-def main():
+def main() -> int:
     parser = argparse.ArgumentParser(
         description=__doc__, formatter_class=argparse.RawTextHelpFormatter)
     parser.add_argument("--runs", type=int, default=1)
@@ -129,7 +134,8 @@ def main():
     arguments = parser.parse_args()
     with tempfile.TemporaryDirectory() as scratch:
         program = bench_program(arguments.folder or scratch, "axes", USES)
-        return report(*(times(program, size, arguments.runs) for size in SIZES))
+        few, many = (times(program, size, arguments.runs) for size in SIZES)
+        return report(few, many)
 
 
 if __name__ == "__main__":

@@ -10,6 +10,8 @@ import os
 import subprocess
 import sys
 import tempfile
+from collections.abc import Sequence
+from typing import TypeAlias
 
 TOP = os.path.join(os.path.dirname(os.path.abspath(__file__)), "..")
 sys.path.insert(0, os.path.join(TOP, "tools"))
@@ -26,8 +28,11 @@ KINDS = (
     ("attributes", (60_000, 600_000)),
 )
 
+# The rows of the element, the bytes that it prints as, and the times in milliseconds.
+Turn: TypeAlias = tuple[int, int, list[float]]
 
-def once(program, kind, size):
+
+def once(program: str, kind: str, size: int) -> Turn:
     """The rows of the element, the bytes that it prints as, and the times in milliseconds."""
     given = ("%s %d" % (kind, size)).encode()
     ran = subprocess.run([program], input=given, stdout=subprocess.PIPE, check=True)
@@ -37,28 +42,28 @@ def once(program, kind, size):
     return int(words[0]), int(words[1]), [int(word) / 1000 for word in words[2:]]
 
 
-def least(turns):
+def least(turns: Sequence[Turn]) -> Turn:
     """The rows and the bytes, and the least times, of several turns of one size."""
     rows, length, _ = turns[0]
     return rows, length, [min(times) for times in zip(*(turn[2] for turn in turns))]
 
 
-def measure(program):
+def measure(program: str) -> None:
     """Prints the table."""
     heads = ("items", "count", "rows", "build ms", "copy ms", "print ms", "MB/s")
     print("%-11s %8s %8s %9s %9s %9s %9s   ratios" % heads)
     for kind, sizes in KINDS:
         rounds = [[once(program, kind, size) for size in sizes] for _ in range(RUNS)]
-        before = None
+        before: list[float] = []
         for size, turns in zip(sizes, zip(*rounds)):
             rows, length, times = least(turns)
-            ratios = " ".join("%5.1f" % (now / then) for now, then in zip(times, before or ()))
+            ratios = " ".join("%5.1f" % (now / then) for now, then in zip(times, before))
             print("%-11s %8d %8d %9.1f %9.1f %9.1f %9.1f   %s"
                   % (kind, size, rows, *times, length / times[2] / 1000, ratios), flush=True)
             before = times
 
 
-def main():
+def main() -> None:
     with tempfile.TemporaryDirectory() as scratch:
         measure(bench_program(sys.argv[1] if len(sys.argv) > 1 else scratch, "build", USES))
 

@@ -6,6 +6,7 @@ one second to the next; a time is the least of so many runs.
 
 import subprocess
 import sys
+from collections.abc import Callable, Iterable, Sequence
 
 # The most that a time may grow where the length doubles.
 MOST = 2.3
@@ -13,7 +14,7 @@ MOST = 2.3
 SHORT = 100
 
 
-def of_length(length, begin, part, end):
+def of_length(length: int, begin: str, part: Callable[[int], str], end: str) -> str:
     """A query of about that many bytes: its begin, parts by their numbers, and its end."""
     parts, size, number = [begin], len(begin) + len(end), 0
     while size < length:
@@ -23,7 +24,7 @@ def of_length(length, begin, part, end):
     return "".join(parts) + end
 
 
-def once(program, text, wanted):
+def once(program: str, text: str, wanted: str) -> int:
     """The microseconds of one run, whose first word has to be the wanted one."""
     ran = subprocess.run([program], input=text.encode(), stdout=subprocess.PIPE, check=True)
     words = ran.stdout.decode().split()
@@ -32,20 +33,21 @@ def once(program, text, wanted):
     return max(1, int(words[1]))
 
 
-def times(program, texts, wanted, runs):
+def times(program: str, texts: Sequence[str], wanted: str, runs: int) -> list[int]:
     """The least microseconds for each text."""
     rounds = [[once(program, text, wanted) for text in texts] for _ in range(runs)]
     return [min(column) for column in zip(*rounds)]
 
 
-def measure(program, queries, wanted, runs):
+def measure(program: str, queries: Iterable[tuple[str, int, Callable[[int], str]]], wanted: str,
+            runs: int) -> int:
     """Prints the times of queries, each a name, its greatest length and what makes a text of a
     length; gives 0 where each doubling is within the bound, and 1 elsewhere."""
     within = True
     print("%-20s %10s %10s %8s" % ("query", "bytes", "ms", "ratio"))
     for name, most, make in queries:
         texts = [make(size) for size in (most // 4, most // 2, most)]
-        before = None
+        before: int | None = None
         for text, time in zip(texts, times(program, texts, wanted, runs)):
             ratio = time / before if before and before > SHORT else None
             within = within and (ratio is None or ratio <= MOST)

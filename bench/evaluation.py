@@ -18,6 +18,8 @@ import pathlib
 import subprocess
 import sys
 import tempfile
+from collections.abc import Iterable, Sequence
+from typing import TypeAlias
 
 TOP = os.path.join(os.path.dirname(os.path.abspath(__file__)), "..")
 sys.path[:0] = [os.path.join(TOP, "tools"), os.path.join(TOP, "bench")]
@@ -33,8 +35,11 @@ TURNS = 5
 # How often both sizes are run, one after the other, since the machine's speed changes.
 ROUNDS = 4
 
+# The least milliseconds of a query, the least with empty caches, and the rows read.
+Figures: TypeAlias = tuple[float, float, int]
 
-def figures(program, elements):
+
+def figures(program: str, elements: int) -> list[Figures]:
     """For each query the least milliseconds, the least with empty caches, and the rows read."""
     lines = [document(elements)] + [query for _, query in QUERIES]
     text = "\n".join(line.replace("\n", " ") for line in lines)
@@ -49,13 +54,13 @@ def figures(program, elements):
             for near, far, group in zip(least[::2], least[1::2], groups[::2])]
 
 
-def least(runs):
+def least(runs: Iterable[Sequence[Figures]]) -> list[Figures]:
     """For each query the least times of several runs."""
     return [(min(turn[0] for turn in turns), min(turn[1] for turn in turns), turns[0][2])
             for turns in zip(*runs)]
 
 
-def of_engines(is_wanted, scratch):
+def of_engines(is_wanted: bool, scratch: str) -> tuple[list[str], list[list[str]]]:
     """The names of the other engines, and for each query the least milliseconds of each."""
     wanted = (SAXON, NODES, DATABASE) if is_wanted else ()
     with driven(wanted, document(LARGE), pathlib.Path(scratch)) as engines:
@@ -65,7 +70,7 @@ def of_engines(is_wanted, scratch):
         [figure(min(run.whole for run in runs)) for runs in spent.values()] for spent in found]
 
 
-def main():
+def main() -> int:
     words = argparse.ArgumentParser(description=__doc__.partition("\n")[0])
     words.add_argument("--engines", action="store_true", help="times of other engines beside")
     words.add_argument("folder", nargs="?")

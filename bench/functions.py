@@ -55,7 +55,7 @@ CALLS = (
 )
 
 
-def times(program, size):
+def times(program: str, size: int) -> list[tuple[float, float]]:
     """Milliseconds of each call, and of its input alone."""
     lines = ["document {element lib {}}"]
     for _, given, call in CALLS:
@@ -74,7 +74,7 @@ def times(program, size):
     return [(max(0.0, whole - given) / CALLS_EACH, given) for given, whole in pairs]
 
 
-def main():
+def main() -> int:
     with tempfile.TemporaryDirectory() as scratch:
         program = bench_program(sys.argv[1] if len(sys.argv) > 1 else scratch, "evaluation", USES)
         small, large = times(program, SIZES[0]), times(program, SIZES[1])

@@ -11,6 +11,8 @@ import pathlib
 import resource
 import sys
 import time
+from collections.abc import Callable
+from typing import TypeAlias
 
 TOP = pathlib.Path(__file__).resolve().parent.parent
 sys.path.insert(0, str(TOP / "tools"))
@@ -18,8 +20,11 @@ from harness import LIBRARY, Server, built, store
 
 STACK = 8 * 1024 * 1024
 
+# The status of a reply and its text.
+Answer: TypeAlias = tuple[int, str]
+
 # What is asked, its greatest size, and from a size to the query and its reply.
-GROWING = [
+GROWING: list[tuple[str, int, Callable[[int], tuple[str, Answer]]]] = [
     ("1+1+1..", 500_000, lambda n: ("1" + "+1" * n, (0, str(n + 1)))),
     ("---..1", 1_000_000, lambda n: ("-" * n + "1", (0, "1"))),
     ("(((..", 1_000_000, lambda n: ("(" * n, (1, "prof:DEPTH"))),
@@ -30,7 +35,7 @@ GROWING = [
         lambda n: ("some " + ", ".join(["$v in 1"] * n) + " satisfies $v = 1", (0, "true()")),
     ),
 ]
-FIXED = [
+FIXED: list[tuple[str, str, Answer]] = [
     ("128 times for", "for $x in 1 return " * 128 + "1", (0, "1")),
     ("129 times for", "for $x in 1 return " * 129 + "1", (1, "prof:DEPTH")),
     ("200 FLWORs", ", ".join(["(for $x in 1 return $x)"] * 200), (0, ", ".join(["1"] * 200))),
@@ -38,12 +43,12 @@ FIXED = [
 ]
 
 
-def narrow():
+def narrow() -> None:
     """The process gets 8 MB of stack."""
     resource.setrlimit(resource.RLIMIT_STACK, (STACK, STACK))
 
 
-def asked(server, query, wanted):
+def asked(server: Server, query: str, wanted: Answer) -> float:
     """Milliseconds to the reply; ends the run where it is another one."""
     begin = time.perf_counter()
     reply = server.ask(b"Q", query.encode())
@@ -53,7 +58,7 @@ def asked(server, query, wanted):
     return spent
 
 
-def main():
+def main() -> None:
     parser = argparse.ArgumentParser(
         description=__doc__, formatter_class=argparse.RawTextHelpFormatter)
     parser.add_argument(

@@ -11,6 +11,7 @@ import shutil
 import subprocess
 import sys
 import tempfile
+from collections.abc import Callable
 
 sys.path.insert(0, os.path.join(os.path.dirname(os.path.abspath(__file__)), "..", "tools"))
 from workspace import built
@@ -39,18 +40,18 @@ fn main(rt: HostRuntime) -> io::Result<()> {
 """
 
 
-def repeated(piece, size):
+def repeated(piece: str, size: int) -> str:
     return piece * (size // len(piece))
 
 
-def nested(size):
+def nested(size: int) -> str:
     """Comments, 100,000 in one another where there is room for so many."""
     if size > 500_000:
         return repeated("(: " * 100_000 + "x" + ":)" * 100_000, size)
     return "(: " * (size // 5) + ":)" * (size // 5)
 
 
-KINDS = (
+KINDS: tuple[tuple[str, Callable[[int], str]], ...] = (
     ("names", lambda size: repeated("element-name ", size)),
     ("one name", lambda size: "a" * size),
     ("integers", lambda size: repeated("123456789 ", size)),
@@ -61,8 +62,8 @@ KINDS = (
 )
 
 
-def timed(program, text):
-    best, tokens = None, 0
+def timed(program: str, text: str) -> tuple[int, int]:
+    best: int | None = None
     for _ in range(5):
         done = subprocess.run([program], input=text.encode(), stdout=subprocess.PIPE, check=True)
         words = done.stdout.decode().split()
@@ -70,16 +71,17 @@ def timed(program, text):
             sys.exit("a text was refused")
         tokens, time = int(words[0]), max(1, int(words[1]))
         best = time if best is None else min(best, time)
+    assert best is not None
     return tokens, best
 
 
-def main():
+def main() -> None:
     folder = tempfile.mkdtemp()
     try:
         program = built(folder, CRATES, CRATES, PROGRAM)
         print("%-22s %10s %8s %10s %8s %8s" % ("text", "bytes", "tokens", "ms", "MB/s", "ratio"))
         for name, make in KINDS:
-            before = None
+            before: int | None = None
             for size in SIZES:
                 text = make(size)
                 tokens, time = timed(program, text)

@@ -17,14 +17,15 @@ TOP = os.path.dirname(os.path.dirname(os.path.abspath(__file__)))
 READS = 10
 
 
-def frame(tag, body):
+def frame(tag: int, body: bytes) -> bytes:
     rest = struct.pack(">I", tag) + body
     return struct.pack(">I", len(rest)) + rest
 
 
-def literal(size):
+def literal(size: int) -> str:
     """A document of about so many bytes: books with an attribute and a text."""
-    books, length, number = [], len("document {element lib {}}"), 0
+    books: list[str] = []
+    length, number = len("document {element lib {}}"), 0
     while True:
         book = 'element book {attribute id {"%d"}, text {"title %d"}}' % (number, number)
         if length + len(book) + 2 > size:
@@ -34,20 +35,21 @@ def literal(size):
         number += 1
 
 
-def timed(server, data):
-    best, output = None, b""
+def timed(server: str, data: bytes) -> tuple[float, bytes]:
+    best: float | None = None
     for _ in range(5):
         start = time.perf_counter()
         output = subprocess.run([server], input=data, stdout=subprocess.PIPE, check=True).stdout
         took = time.perf_counter() - start
         best = took if best is None else min(best, took)
+    assert best is not None
     return best, output
 
 
-def main():
+def main() -> None:
     server = sys.argv[1] if len(sys.argv) > 1 else os.path.join(TOP, "serve")
     empty, _ = timed(server, b"")
-    before = {}
+    before: tuple[float, ...] = ()
     heads = ("bytes", "nodes", "store ms", "read ms", "ratio", "ratio")
     print("%10s %8s %12s %12s %8s %8s" % heads)
     for size in (262_144, 524_288, 1_048_576):

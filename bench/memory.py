@@ -13,12 +13,14 @@ its place. Last: what a row takes with its names and values found, and how many 
 documents together are kept at most, by the bound that the store's source has.
 """
 
+import dataclasses
 import os
 import pathlib
 import re
 import subprocess
 import sys
 import tempfile
+from collections.abc import Sequence
 
 HERE = os.path.dirname(os.path.abspath(__file__))
 sys.path.insert(0, HERE)
@@ -34,7 +36,19 @@ ROOM = pathlib.Path(HERE, "..", "crates", "xq_rows", "src", "room.rt")
 MOST_KEPT = re.compile(r"^const MOST_KEPT: usize = (\d+) << (\d+);$", re.MULTILINE)
 
 
-def counter(folder):
+@dataclasses.dataclass
+class Stage:
+    """A stage with the bytes that are resident as it ends, and the most since the one before.
+
+    `held` has the same of what is allocated, or nothing where that isn't counted."""
+
+    name: str
+    resident: int = 0
+    most: int = 0
+    held: tuple[int, int] | None = None
+
+
+def counter(folder: str) -> str | None:
     """The library that counts what is allocated, if there is a C compiler."""
     path = os.path.join(folder, "held.so")
     source = os.path.join(HERE, "store", "held.c")
@@ -46,7 +60,7 @@ def counter(folder):
     return path
 
 
-def answer(program, words, library=None):
+def answer(program: str, words: str, library: str | None = None) -> str:
     """What the program writes."""
     added = {"LD_PRELOAD": library} if library else {}
     done = subprocess.run([program], input=words.encode(), stdout=subprocess.PIPE, check=True,
@@ -54,50 +68,54 @@ def answer(program, words, library=None):
     return done.stdout.decode()
 
 
-def stages(text):
-    """Each stage with the bytes that are resident as it ends, the most since the one before, and
-    the same of what is allocated, or nothing of it where it isn't counted."""
-    found = []
+def stages(text: str) -> list[Stage]:
+    """The stages that the program tells, in their order."""
+    found: list[Stage] = []
     for line in text.splitlines():
         words = line.split()
         if "stage" in words:
             held = (int(words[1]), int(words[3])) if words[0] == "held" else None
-            found.append([" ".join(words[words.index("stage") + 1:]), 0, 0, held])
+            found.append(Stage(" ".join(words[words.index("stage") + 1:]), held=held))
         elif "VmRSS:" in words:
-            found[-1][1] = int(words[words.index("VmRSS:") + 1]) * 1024
+            found[-1].resident = int(words[words.index("VmRSS:") + 1]) * 1024
         elif "VmHWM:" in words:
-            found[-1][2] = int(words[words.index("VmHWM:") + 1]) * 1024
+            found[-1].most = int(words[words.index("VmHWM:") + 1]) * 1024
     return found
 
 
-def report(rows, found):
+def report(rows: int, found: Sequence[Stage]) -> None:
     """Prints the stages."""
-    opened = next(held for stage, _, _, held in found if stage == "opened")
-    for stage, resident, most, held in found:
-        line = "%-8s resident %7.1f MB, at most %7.1f MB" % (stage, resident / 1e6, most / 1e6)
-        if held:
+    opened = next(stage.held for stage in found if stage.name == "opened")
+    for stage in found:
+        line = "%-8s resident %7.1f MB, at most %7.1f MB" % (
+            stage.name, stage.resident / 1e6, stage.most / 1e6)
+        held = stage.held
+        if held and opened:
             line += "   allocated %7.1f MB, at most %7.1f MB; a row %6.1f and %6.1f" % (
                 held[0] / 1e6, held[1] / 1e6,
                 (held[0] - opened[0]) / rows, (held[1] - opened[0]) / rows)
         print(line)
 
 
-def most_kept():
+def most_kept() -> int:
     """How many bytes are kept of all documents together at most."""
-    number, places = MOST_KEPT.search(ROOM.read_text()).groups()
-    return int(number) << int(places)
+    found = MOST_KEPT.search(ROOM.read_text())
+    if found is None:
+        sys.exit("%s does not say how many bytes are kept" % ROOM)
+    return int(found.group(1)) << int(found.group(2))
 
 
-def report_bound(rows, found):
+def report_bound(rows: int, found: Sequence[Stage]) -> None:
     """Prints what a row takes with names and values found, and how many of them are kept."""
-    held = {stage: held for stage, _, _, held in found}
-    if held["opened"]:
-        taken = (held["values"][0] - held["opened"][0]) / rows
+    held = {stage.name: stage.held for stage in found}
+    opened, values = held["opened"], held["values"]
+    if opened and values:
+        taken = (values[0] - opened[0]) / rows
         print("a row with names and values: %.1f bytes; at most %d MB are kept, some %.1f million"
               % (taken, most_kept() >> 20, most_kept() / taken / 1e6))
 
 
-def measure(program):
+def measure(program: str) -> None:
     with tempfile.TemporaryDirectory() as folder:
         path = os.path.join(folder, "rows.db")
         rows = int(answer(program, "fill %d %s" % (ELEMENTS, path)))
@@ -108,10 +126,10 @@ def measure(program):
         report_bound(rows, found)
 
 
-def main():
+def main() -> None:
     with tempfile.TemporaryDirectory() as scratch:
         measure(bench_program(sys.argv[1] if len(sys.argv) > 1 else scratch, "axes", USES))
 
 
 if __name__ == "__main__":
-    sys.exit(main())
+    main()

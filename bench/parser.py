@@ -15,13 +15,14 @@ import resource
 import subprocess
 import sys
 import tempfile
+from collections.abc import Callable
 
 TOP = os.path.join(os.path.dirname(os.path.abspath(__file__)), "..")
 sys.path.insert(0, os.path.join(TOP, "tools"))
 from workspace import bench_program
 
 USES = ("xq_atoms", "xq_lexer", "xq_expressions", "xq_parser", "sqlite_items")
-CHAINS = (
+CHAINS: tuple[tuple[str, int, str, Callable[[int], str]], ...] = (
     ("1+1+1 ..", 500_000, "expression", lambda count: "1" + "+1" * count),
     ("/a/a ..", 300_000, "expression", lambda count: "/a" * count),
     ("--- .. 1", 1_000_000, "expression", lambda count: "-" * count + "1"),
@@ -39,9 +40,9 @@ NESTS = (
 )
 
 
-def timed(program, text, wanted):
+def timed(program: str, text: str, wanted: str) -> tuple[int, int]:
     """The number of the text's tokens, and the least time of five runs in microseconds."""
-    best, tokens = None, 0
+    best: int | None = None
     for _ in range(5):
         done = subprocess.run([program], input=text.encode(), stdout=subprocess.PIPE, check=True)
         words = done.stdout.decode().split()
@@ -49,10 +50,11 @@ def timed(program, text, wanted):
             sys.exit("%s, not %s" % (words[0], wanted))
         tokens, time = int(words[1]), max(1, int(words[2]))
         best = time if best is None else min(best, time)
+    assert best is not None
     return tokens, best
 
 
-def is_parsed(program, text, kilobytes):
+def is_parsed(program: str, text: str, kilobytes: int) -> bool:
     """Whether the text gives an expression on a stack of that size."""
     limit = kilobytes * 1024
     ran = subprocess.run(
@@ -61,7 +63,7 @@ def is_parsed(program, text, kilobytes):
     return ran.returncode == 0 and ran.stdout.startswith(b"expression")
 
 
-def least_stack(program, text):
+def least_stack(program: str, text: str) -> int:
     """The least stack on which the text is parsed, a multiple of STEP."""
     low, high = 0, 1024
     while high * STEP < 1_000_000 and not is_parsed(program, text, high * STEP):
@@ -75,11 +77,11 @@ def least_stack(program, text):
     return high * STEP
 
 
-def measure(program):
+def measure(program: str) -> None:
     """Prints the times and the stacks."""
     print("%-14s %10s %10s %10s %8s" % ("text", "tokens", "ends as", "ms", "ratio"))
     for name, most, wanted, make in CHAINS:
-        before = None
+        before: int | None = None
         for count in (most // 4, most // 2, most):
             tokens, time = timed(program, make(count), wanted)
             ratio = "%8.2f" % (time / before) if before and before > SHORT else ""
@@ -90,7 +92,7 @@ def measure(program):
         print("%-14s %10d KB of stack" % (name, least_stack(program, text)), flush=True)
 
 
-def main():
+def main() -> None:
     with tempfile.TemporaryDirectory() as scratch:
         measure(bench_program(sys.argv[1] if len(sys.argv) > 1 else scratch, "parser", USES))
 

@@ -26,32 +26,32 @@ MEGABYTE = 1_000_000
 RUNS = 15
 
 
-def steps(length):
+def steps(length: int) -> str:
     kinds = ("/a", "//b", "/..", "/@c", "//d[1]", "/preceding::e")
     return of_length(length, "a", lambda n: kinds[n % len(kinds)], "")
 
 
-def operands(length):
+def operands(length: int) -> str:
     return of_length(length, "1", lambda n: " + %d" % (n % 10), "")
 
 
-def new_variables(length):
+def new_variables(length: int) -> str:
     return of_length(length, "let $v0 := 1",
                      lambda n: ", $v%d := ($v%d, $v%d)" % (n + 1, n, n // 2), " return $v0")
 
 
-def one_variable(length):
+def one_variable(length: int) -> str:
     return of_length(length, "let $v := 1", lambda n: ", $v := $v + 1", " return $v")
 
 
-def other_clauses(length):
+def other_clauses(length: int) -> str:
     kinds = (" where $v = %d", " order by $v, $w descending", " group by $v",
              " stable order by $w + %d empty greatest")
     return of_length(length, "for $v at $w in 1 to 9",
                      lambda n: kinds[n % len(kinds)].replace("%d", str(n)), " return $v")
 
 
-def quantifiers(length):
+def quantifiers(length: int) -> str:
     part = ", (some $v%d in 1 to 3, $w in $v%d satisfies $w)"
     return of_length(length, "1", lambda n: part % (n % 1000, n % 1000), "")
 
@@ -66,7 +66,7 @@ QUERIES = (
 )
 
 
-def main():
+def main() -> int:
     with tempfile.TemporaryDirectory() as scratch:
         folder = sys.argv[1] if len(sys.argv) > 1 else scratch
         return measure(bench_program(folder, "plan", USES), QUERIES, "planned", RUNS)

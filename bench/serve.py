@@ -8,10 +8,12 @@ to open.
 each time replaces it. One at a time: each frame after the reply to the one before; 64 in flight: so
 many frames, and then their replies.
 """
+import os
 import pathlib
 import sys
 import tempfile
 import time
+from collections.abc import Sequence
 
 TOP = pathlib.Path(__file__).resolve().parent.parent
 sys.path.insert(0, str(TOP / "tools"))
@@ -21,12 +23,13 @@ REQUESTS = [("L", b"L", b""), ('doc("b")', b"Q", b'doc("b")'), ("S", b"S", store
 ROWS = 50_000
 
 
-def rate(command, request, flight, seconds):
+def rate(command: Sequence[str | os.PathLike[str]], request: tuple[bytes, bytes], flight: int,
+         seconds: float) -> float:
     """Frames per second with so many in flight."""
     server = Server(command)
     server.ask(b"S", store(b"b", LIBRARY))
     server.ask(*request)
-    expected = server.ask(*request)
+    expected = server.answer(*request)
     size = len(expected[1]) + 9
     data = frame(*request) * flight
     count, begin = 0, time.perf_counter()
@@ -40,19 +43,19 @@ def rate(command, request, flight, seconds):
     return found
 
 
-def rates(what, words, seconds):
+def rates(what: str, words: Sequence[str], seconds: float) -> None:
     """A line for each request."""
-    for name, *request in REQUESTS:
-        one, many = (rate([built(), *words], request, flight, seconds) for flight in (1, 64))
+    for name, kind, body in REQUESTS:
+        one, many = (rate([built(), *words], (kind, body), flight, seconds) for flight in (1, 64))
         print(f"{what:10} {name:10} {one:14,.0f} {many:14,.0f}", flush=True)
 
 
-def large_document():
+def large_document() -> bytes:
     """A document of so many rows, as it is printed."""
     return b"document {element rows {" + b", ".join([b"element r {}"] * (ROWS - 2)) + b"}}"
 
 
-def opening(path):
+def opening(path: str) -> float:
     """Milliseconds from the start of the server to its first reply, in the middle of five."""
     times = []
     for _ in range(5):
@@ -64,7 +67,7 @@ def opening(path):
     return sorted(times)[2]
 
 
-def main():
+def main() -> None:
     seconds = float(sys.argv[1]) if len(sys.argv) > 1 else 2.0
     print(f"{'':10} {'request':10} {'one at a time':>14} {'64 in flight':>14}   frames per second")
     rates("memory", [], seconds)

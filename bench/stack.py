@@ -67,7 +67,7 @@ QUERIES = (
 )
 
 
-def outcome(program, given, kilobytes):
+def outcome(program: str, given: str, kilobytes: int) -> str:
     """What the program prints on a stack of that size; nothing where it is too small."""
     limit = kilobytes * 1024
     ran = subprocess.run(
@@ -76,7 +76,7 @@ def outcome(program, given, kilobytes):
     return ran.stdout.decode().strip() if ran.returncode == 0 else ""
 
 
-def least_stack(program, given):
+def least_stack(program: str, given: str) -> int:
     """The least stack in kilobytes on which the program ends, a multiple of STEP."""
     low, high = 0, 8
     while not outcome(program, given, high * STEP):
@@ -92,7 +92,7 @@ def least_stack(program, given):
     return high * STEP
 
 
-def of_plans(program):
+def of_plans(program: str) -> tuple[int, str]:
     """Prints a line for each form of plan; gives the most bytes of a level, and its form."""
     print("%-24s %10s %10s" % ("plan", "a level", "128 levels"))
     worst = (0, "")
@@ -105,7 +105,7 @@ def of_plans(program):
     return worst
 
 
-def deepest(program, before, middle, after):
+def deepest(program: str, before: str, middle: str, after: str) -> tuple[int, str, str]:
     """How often the form can be nested, and the query."""
     for count in range(NESTING, 0, -1):
         query = before * count + middle + after * count
@@ -115,7 +115,7 @@ def deepest(program, before, middle, after):
     return 0, middle, "value"
 
 
-def of_queries(program):
+def of_queries(program: str) -> tuple[int, str]:
     """Prints a line for each form of query; gives the most kilobytes, and its form."""
     print("%-24s %6s %10s %14s   %s" % ("query", "times", "read", "and evaluated", "ends as"))
     worst = (0, "")
@@ -131,7 +131,7 @@ def of_queries(program):
     return worst
 
 
-def main():
+def main() -> None:
     with tempfile.TemporaryDirectory() as scratch:
         program = bench_program(sys.argv[1] if len(sys.argv) > 1 else scratch, "stack", USES)
         level, form = of_plans(program)

@@ -22,26 +22,26 @@ MEGABYTE = 1_000_000
 RUNS = 75
 
 
-def new_variables(length):
+def new_variables(length: int) -> str:
     return of_length(length, "let $v0 := 1",
                      lambda n: ", $v%d := ($v%d, $v%d)" % (n + 1, n, n // 2), " return $v0")
 
 
-def one_variable(length):
+def one_variable(length: int) -> str:
     return of_length(length, "let $v := 1", lambda n: ", $v := $v + 1", " return $v")
 
 
-def nested_scopes(length):
+def nested_scopes(length: int) -> str:
     part = ", (for $v%d at $p in 1 to 3 return $v%d + $p)"
     return of_length(length, "1", lambda n: part % (n % 1000, n % 1000), "")
 
 
-def calls(length):
+def calls(length: int) -> str:
     names = ("count(1)", "string-join(1, 2)", "concat(1, 2, 3)", "xs:integer(1)", "fn:round(1)")
     return of_length(length, "1", lambda n: ", " + names[n % len(names)], "")
 
 
-def clauses(count):
+def clauses(count: int) -> str:
     # Each word that binds nests what follows, and nesting goes to 128: so few clauses bind by
     # words of their own.
     kinds = ("where $x", "group by $v%d := $x, $x", "order by $x, $x descending",
@@ -61,7 +61,7 @@ QUERIES = (
 )
 
 
-def main():
+def main() -> int:
     with tempfile.TemporaryDirectory() as scratch:
         folder = sys.argv[1] if len(sys.argv) > 1 else scratch
         return measure(bench_program(folder, "statics", USES), QUERIES, "passed", RUNS)

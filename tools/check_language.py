@@ -13,6 +13,7 @@ computes the rows.
 import os
 import re
 import sys
+from collections.abc import Iterable, Iterator
 
 from rows.files import TOP, Row, file_of, text_of
 
@@ -28,30 +29,31 @@ FOLDER = re.compile(r"(?m)^\| (crates/\w+/specs) \| (.*) \|$")
 CITATION = re.compile(r"\[([^\]]+)\](?!\()")
 
 
-def read(path):
+def read(path: str) -> str:
     with open(path) as file:
         return file.read()
 
 
-def unbroken(text):
+def unbroken(text: str) -> str:
     """The text with each line joined to those after it that go on with an indent."""
     return re.sub(r"\s*\n\s+(?=\S)", " ", text)
 
 
-def sections_of(page):
+def sections_of(page: str) -> Iterable[tuple[str, str]]:
     """Each heading with the text below it, down to the next heading."""
     _, *parts = HEADING.split(page)
     return zip(parts[::2], parts[1::2])
 
 
-def named(heading, count):
+def named(heading: str, count: int) -> str:
     """The name of the row of an example, which is that many under its heading."""
     return "%s_%d" % (re.sub("[^a-z]+", "_", heading.lower()).strip("_"), count)
 
 
-def rows_of(page):
+def rows_of(page: str) -> list[list[Row]]:
     """The rows of the page's examples, as two files have them; each example stands once."""
-    files, seen = [[]], set()
+    files: list[list[Row]] = [[]]
+    seen: set[tuple[str, str, str]] = set()
     for heading, text in sections_of(page):
         if heading == SECOND:
             files.append([])
@@ -62,21 +64,21 @@ def rows_of(page):
     return files
 
 
-def file_texts(page):
+def file_texts(page: str) -> tuple[tuple[str, str, list[Row]], ...]:
     """The two files of rows by their paths, with the rows of each."""
     first, second = rows_of(page)
     return ((os.path.join(PROOFS, "LanguageRows.antt"), TITLE + ".", first),
             (os.path.join(PROOFS, "MoreLanguageRows.antt"), TITLE + ", from FLWOR on.", second))
 
 
-def write(page):
+def write(page: str) -> None:
     """Writes the two files anew."""
     for path, title, rows in file_texts(page):
         with open(path, "w") as file:
             file.write(file_of(title, rows, "Rattle.xq_meaning.proofs.Library"))
 
 
-def missing_rows(page):
+def missing_rows(page: str) -> Iterator[str]:
     """The examples that don't stand as a row, and the rows that are no example."""
     for path, _, rows in file_texts(page):
         _, *standing = read(path).rstrip("\n").split("\n\n")
@@ -85,16 +87,16 @@ def missing_rows(page):
         yield from (f"no example: {text}" for text in standing if text not in wanted)
 
 
-def files_cited(page):
+def files_cited(page: str) -> dict[str, str]:
     """The paths of the files of definitions, by the names that the page's table gives them."""
-    paths = {}
+    paths: dict[str, str] = {}
     for folder, cell in FOLDER.findall(page):
         for name in re.findall(r"[\w/]+", re.sub(r"\([^)]*\)", "", cell)):
             paths[name] = os.path.join(TOP, folder, os.path.basename(name) + ".antt")
     return paths
 
 
-def citations_of(page):
+def citations_of(page: str) -> Iterator[tuple[str, str]]:
     """Each file with a definition that the page cites outside of code, or none, as ""."""
     prose = re.sub("`[^`]*`", "", unbroken(page))
     for citation in CITATION.findall(prose):
@@ -104,13 +106,13 @@ def citations_of(page):
                 yield file, name.strip()
 
 
-def is_defined(name, text):
+def is_defined(name: str, text: str) -> bool:
     """Whether the text of a file of definitions has a public one of that name."""
     return re.search(rf"(?m)^ *(?:(?:abbrev|unfoldable) )*pub (?:(?:data|record) )?"
-                     rf"{re.escape(name)}(?=\s)", text)
+                     rf"{re.escape(name)}(?=\s)", text) is not None
 
 
-def missing_definitions(page):
+def missing_definitions(page: str) -> Iterator[str]:
     """The citations of a file or a definition that is not there."""
     paths = files_cited(page)
     for file, name in citations_of(page):
@@ -120,7 +122,7 @@ def missing_definitions(page):
             yield f"no definition: {file}: {name}"
 
 
-def main(words):
+def main(words: list[str]) -> int:
     # (the table of the grammar has brackets of its own)
     page = re.sub(r"(?s)<!-- grammar.*<!-- /grammar -->", "", read(PAGE))
     if "--write" in words:

@@ -20,12 +20,13 @@ def main() -> int:
     parser = argparse.ArgumentParser(description=__doc__.partition("\n")[0])
     commands = parser.add_subparsers(required=True, metavar="COMMAND")
     for name, module in (("check", check), ("compute", compute), ("read-back", read_back)):
-        summary, _, text = module.__doc__.partition("\n")
+        summary, _, text = (module.__doc__ or "").partition("\n")
         command = commands.add_parser(name, help=summary, description=summary, epilog=text)
         module.add_options(command)
         command.set_defaults(run=module.run)
     given = parser.parse_args()
-    return given.run(given)
+    status: int = given.run(given)
+    return status
 
 
 if __name__ == "__main__":

@@ -91,6 +91,10 @@ class Server:
         self.send(frame(kind, body))
         return self.reply()
 
+    def answer(self, kind: bytes, body: bytes = b"") -> Reply:
+        """Sends a request, and gives its reply; ends the script where the server ended."""
+        return self.ask(kind, body) or sys.exit("the server ended before its reply")
+
     def end(self) -> tuple[int, str]:
         """Ends the input, and gives the exit status and what stood on standard error."""
         self._in.close()

@@ -24,7 +24,7 @@ ADDRESSES = [b"a", b"b", b"c/d"]
 LATEST_KILL = 0.2
 
 
-def document(chance):
+def document(chance: random.Random) -> bytes:
     """A document of up to some thousand rows, as it is printed."""
     count = chance.choice([0, 1, 20, 500, 3000])
     if count == 0:
@@ -34,7 +34,7 @@ def document(chance):
     return b"document {element rows {" + rows + b"}}"
 
 
-def held(server):
+def held(server: Server) -> dict[bytes, bytes] | None:
     """All documents by address, or None where the server ends before it has told them."""
     found = {}
     for address in ADDRESSES:
@@ -46,7 +46,8 @@ def held(server):
     return found
 
 
-def request(chance, documents):
+def request(chance: random.Random,
+            documents: dict[bytes, bytes]) -> tuple[tuple[bytes, bytes], dict[bytes, bytes]]:
     """A random request, and the documents after it."""
     address = chance.choice(ADDRESSES)
     if chance.random() < 0.25:
@@ -55,7 +56,8 @@ def request(chance, documents):
     return (b"S", store(address, text)), {**documents, address: text}
 
 
-def send_until_killed(server, chance, documents):
+def send_until_killed(server: Server, chance: random.Random,
+                      documents: dict[bytes, bytes]) -> tuple[dict[bytes, bytes], dict[bytes, bytes]]:
     """Sends requests, each after the reply to the one before, and gives the documents before and
     after the one under way."""
     while True:
@@ -67,14 +69,14 @@ def send_until_killed(server, chance, documents):
             documents = after
 
 
-def judge(found, before, after):
+def judge(found: dict[bytes, bytes], before: dict[bytes, bytes], after: dict[bytes, bytes]) -> str:
     """What the documents found are."""
     if found == before:
         return "before"
     return "after" if found == after else "neither"
 
 
-def main():
+def main() -> int:
     times = int(sys.argv[1]) if len(sys.argv) > 1 else 200
     chance = random.Random(int(sys.argv[2]) if len(sys.argv) > 2 else time.time_ns())
     program = built()
@@ -82,7 +84,8 @@ def main():
         ("opens", "before", "after", "neither", "refused", "killed before the first frame"), 0)
     with tempfile.TemporaryDirectory() as folder:
         command = [program, "--file", pathlib.Path(folder) / "x.db"]
-        before, after = {}, {}
+        before: dict[bytes, bytes] = {}
+        after: dict[bytes, bytes] = {}
         rounds = 0
         while rounds <= times:
             server = Server(command)

@@ -10,12 +10,13 @@ import concurrent.futures
 import dataclasses
 import threading
 from collections.abc import Callable, Mapping, Sequence
-from typing import Any, Protocol
+from typing import Any, Protocol, TypeVar
 
 import repository
 
 # What a crate without a measured time counts as, in minutes.
 UNMEASURED = 1.0
+Result = TypeVar("Result")
 
 
 class Crate(Protocol):
@@ -67,16 +68,19 @@ class Lanes(concurrent.futures.Executor):
         self.done: set[str] = set()
         self.change = threading.Condition()
 
-    def submit(self, work: Callable[[Any], Any], given: Any) -> concurrent.futures.Future[Any]:
+    def submit(self, work: Callable[..., Result], /, *args: Any,
+               **named: Any) -> concurrent.futures.Future[Result]:
         """Hands in the work on a crate, after that on the crates below it; or a step of such work,
-        which waits for none."""
+        which waits for none. The work has one argument."""
+        (given,) = args
         if not hasattr(given, "below"):
             return self.steps.submit(work, given)
-        task = Task(work, given, concurrent.futures.Future())
+        future: concurrent.futures.Future[Result] = concurrent.futures.Future()
+        task = Task(work, given, future)
         with self.change:
             self.waiting.append(task)
             self.begin()
-        return task.future
+        return future
 
     def begin(self) -> None:
         """Begins what can begin. The caller holds the lock."""

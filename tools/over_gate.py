@@ -15,6 +15,7 @@ import shutil
 import subprocess
 import sys
 import tempfile
+from typing import NoReturn
 
 from repository import all_below, libraries
 
@@ -22,7 +23,7 @@ KIT = os.environ.get("OVER_GATE_KIT") or os.path.dirname(
     os.path.dirname(os.path.realpath(shutil.which("rt") or "")))
 
 
-def check_words(verb, name, clone):
+def check_words(verb: str, name: str, clone: str) -> list[str]:
     """What rattle is called with to prove the crate of the current folder, or to build it."""
     crates = libraries(os.path.join(clone, "crates.txt"))
     uses = libraries(os.path.join("..", "..", "crates.txt"))[name]
@@ -38,7 +39,7 @@ def check_words(verb, name, clone):
                     "--logic-built", KIT + "/logic_built", "--links", name + "=", "--jobs", "2"]
 
 
-def build(clone, is_test):
+def build(clone: str, is_test: bool) -> str:
     """Builds the program or the tests of the current folder's crate; gives their path."""
     name = os.path.basename(os.getcwd())
     program = "out/" + name + "_tests" * is_test
@@ -55,7 +56,7 @@ def build(clone, is_test):
     return program
 
 
-def stand_in(clone, words):
+def stand_in(clone: str, words: list[str]) -> NoReturn:
     """What `rt` is while the command runs."""
     if words == ["check"]:
         check = check_words("check", os.path.basename(os.getcwd()), clone)
@@ -69,7 +70,7 @@ def stand_in(clone, words):
     os.execv(program, [program] + given)
 
 
-def main():
+def main() -> int:
     clone = os.environ.get("OVER_GATE")
     if clone and os.path.basename(sys.argv[0]) == "rt":
         stand_in(clone, sys.argv[1:])

@@ -12,22 +12,23 @@ OLD alone and `+` for NEW alone; the last line counts.
 import re
 import subprocess
 import sys
+from collections.abc import Iterable
 
 SOURCE = re.compile(r"crates/\w+/src/.*\.rt$")
 OF_TESTS = re.compile(r"_tests/|/xq_samples/")
 HEAD = re.compile(r"(?m)^[ \t]*pub (?:const )?fn ")
 
 
-def git(*words):
+def git(*words: str) -> str:
     return subprocess.check_output(["git", *words], text=True)
 
 
-def sources(commit):
+def sources(commit: str) -> list[str]:
     names = git("ls-tree", "-r", "--name-only", commit, "crates").split("\n")
     return [it for it in names if SOURCE.match(it) and not OF_TESTS.search(it)]
 
 
-def skip_braces(text, at):
+def skip_braces(text: str, at: int) -> int:
     """The place after the group that opens at this place."""
     depth = 0
     for place in range(at, len(text)):
@@ -37,7 +38,7 @@ def skip_braces(text, at):
     return len(text)
 
 
-def contract(text, at):
+def contract(text: str, at: int) -> str:
     """A function's head and clauses, from its first word to its body."""
     found, place = "", at
     while place < len(text):
@@ -52,8 +53,8 @@ def contract(text, at):
     return found
 
 
-def contracts(commit, renames):
-    found = set()
+def contracts(commit: str, renames: Iterable[tuple[str, str]]) -> set[str]:
+    found: set[str] = set()
     for name in sources(commit):
         text = git("show", f"{commit}:{name}")
         text = re.sub(r"(?m)^\s*//.*$", "", text)
@@ -65,8 +66,8 @@ def contracts(commit, renames):
     return found
 
 
-def main(words):
-    renames = [it.split("=", 1) for it in words if "=" in it]
+def main(words: list[str]) -> None:
+    renames = [(old, new) for old, _, new in (it.partition("=") for it in words if "=" in it)]
     commits = [it for it in words if "=" not in it and it != "--rename"]
     old = contracts(commits[0], renames)
     new = contracts(commits[1] if len(commits) > 1 else "HEAD", [])

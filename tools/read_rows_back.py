@@ -20,7 +20,7 @@ def main() -> int:
     parser = argparse.ArgumentParser(description=__doc__.partition("\n")[0])
     parser.add_argument("--server", metavar="COMMAND")
     words = parser.parse_args()
-    server = Server(shlex.split(words.server) if words.server else [built()])
+    server = Server(shlex.split(words.server) if words.server else [str(built())])
     texts = [row.text for row in worked()
              if row.kind == b"Q" and row.status == 0 and len(row.text) <= LONGEST_QUERY]
     wrong = [text for text in texts if server.ask(b"Q", text) != (0, text)]

@@ -19,6 +19,8 @@ import os
 import re
 import sys
 import textwrap
+from collections.abc import Collection, Iterable, Iterator, Mapping
+from typing import TypeAlias
 
 import repository
 
@@ -33,7 +35,12 @@ BEGIN = re.compile(r"^( *)((?:abbrev|unfoldable|pub|record|data|infix\w*) )*([^\
 WORD = re.compile(r"[^\s(){}\[\];,.λ×]+(?:\.[^\s(){}\[\];,λ×]+)*")
 
 
-def read(path):
+# What a name stands for: its module, and its name there.
+Definition: TypeAlias = tuple[str, str]
+Uses: TypeAlias = dict[str, Definition]
+
+
+def read(path: str) -> str:
     with open(path) as file:
         return file.read()
 
@@ -41,30 +48,34 @@ def read(path):
 class File:
     """A file of specs/: what it brings in, and its definitions with their lines."""
 
-    def __init__(self, path, module):
+    def __init__(self, path: str, module: str) -> None:
         self.path, self.module, self.text = path, module, read(path)
         self.uses, self.aliases = uses_of(self.text)
         self.definitions = definitions_of(self.text)
         self.lines = self.text.count("\n")
 
 
-def uses_of(text):
+def uses_of(text: str) -> tuple[Uses, dict[str, str]]:
     """Names by what they stand for, and short words for modules."""
-    names, aliases = {}, {}
+    names: Uses = {}
+    aliases: dict[str, str] = {}
     for module, brought, alias in USE.findall(text):
         if alias:
             aliases[alias] = module
         elif not brought:
             aliases[module.split(".")[-1]] = module
-        for part in filter(None, (it.strip() for it in brought.split(","))):
+        part: str
+        for part in filter(None, map(str.strip, brought.split(","))):
             name, _, other = part.partition(" as ")
             names[other or name] = (module, name)
     return names, aliases
 
 
-def definitions_of(text):
+def definitions_of(text: str) -> dict[str, list[str]]:
     """Each definition's lines, the comment above it among them."""
-    found, name, comment = {}, None, []
+    found: dict[str, list[str]] = {}
+    name: str | None = None
+    comment: list[str] = []
     for line in text.split("\n"):
         if line.strip().startswith("--"):
             comment.append(line)
@@ -76,8 +87,8 @@ def definitions_of(text):
         head = BEGIN.match(line)
         declared = HEAD.match(line)
         words = re.match(r" *(abbrev|unfoldable|pub|record|data|abstract)\b", line)
-        is_head = head and words and declared and len(head.group(1)) <= 2
-        if is_head and not in_record(found, name, line):
+        is_head = head and words and len(head.group(1)) <= 2
+        if declared and is_head and not in_record(found, name, line):
             name = declared.group(1) or declared.group(2)
             found.setdefault(name, []).extend(comment)
         if name:
@@ -86,7 +97,7 @@ def definitions_of(text):
     return found
 
 
-def in_record(found, name, line):
+def in_record(found: Mapping[str, list[str]], name: str | None, line: str) -> bool:
     """Whether the line is a field of the record or variant of the data at hand."""
     if name is None:
         return False
@@ -96,8 +107,8 @@ def in_record(found, name, line):
     return is_block and len(line) - len(line.lstrip()) > depth
 
 
-def files_of_specs():
-    files = {}
+def files_of_specs() -> dict[str, File]:
+    files: dict[str, File] = {}
     for crate in sorted(os.listdir(f"{TOP}/crates")):
         base = f"{TOP}/crates/{crate}/specs"
         for folder, _, names in os.walk(base):
@@ -108,24 +119,24 @@ def files_of_specs():
     return files
 
 
-def order_of_crates():
+def order_of_crates() -> list[str]:
     """The crates, each after those that it stands on."""
     crates = repository.libraries(os.path.join(TOP, "crates.txt"))
     return repository.all_below(list(crates), crates)
 
 
-def exported(crate):
+def exported(crate: str) -> tuple[set[str], set[str]]:
     """The names that a crate's root has or hands out, and its public modules."""
     path = f"{TOP}/crates/{crate}/src/lib.rt"
     root = read(path) if os.path.exists(path) else ""
-    names = set()
+    names: set[str] = set()
     for group in re.findall(r"(?s)pub use [\w:]+?::(\{.*?\}|\w+);", root):
         names.update(re.findall(r"\w+", group))
     names.update(re.findall(r"(?m)^pub (?:struct|enum|trait) (\w+)", root))
     return names, set(re.findall(r"(?m)^pub mod (\w+);", root))
 
 
-def clauses_of(crate):
+def clauses_of(crate: str) -> Iterator[tuple[str, Uses, dict[str, str]]]:
     """The clauses of a crate's public functions and models, with what their files bring in."""
     names, modules = exported(crate)
     for folder, _, files in os.walk(f"{TOP}/crates/{crate}/src"):
@@ -136,7 +147,7 @@ def clauses_of(crate):
                 yield " ".join(CLAUSE.findall(piece)), {**uses, **uses_of(piece)[0]}, aliases
 
 
-def public_pieces(text, names, is_open):
+def public_pieces(text: str, names: Collection[str], is_open: bool) -> Iterator[str]:
     """The public functions, methods, traits and models of a file."""
     of_type = of_trait = False
     begins = r"(?m)^ *(?=pub (?:const )?fn |fn |pub\(crate\) |pub trait |impl\b)"
@@ -153,18 +164,20 @@ def public_pieces(text, names, is_open):
             yield piece
 
 
-def implemented(piece):
+def implemented(piece: str) -> str:
     """The type of an impl."""
     head = r"(?s)impl\b.*?\b(\w+)(?:<[^{]*>)?\s*(?:where[^{]*)?\{"
     found = re.match(head, piece)
     return found.group(1) if found else ""
 
 
-def trait_name(piece):
-    return re.match(r"pub trait (\w+)", piece).group(1)
+def trait_name(piece: str) -> str:
+    found = re.match(r"pub trait (\w+)", piece)
+    return found.group(1) if found else ""
 
 
-def references(text, uses, aliases, own, module):
+def references(text: str, uses: Uses, aliases: Mapping[str, str], own: Collection[str],
+               module: str) -> Iterator[Definition]:
     for word in set(WORD.findall(text)):
         first, _, rest = word.partition(".")
         if first in uses:
@@ -175,10 +188,10 @@ def references(text, uses, aliases, own, module):
             yield module, first
 
 
-def reached(files, crates):
+def reached(files: Mapping[str, File], crates: Iterable[str]) -> set[Definition]:
     todo = [it for crate in crates for text, uses, aliases in clauses_of(crate)
             for it in references(text, uses, aliases, (), "")]
-    done = set()
+    done: set[Definition] = set()
     while todo:
         module, name = todo.pop()
         file = files.get(module)
@@ -190,7 +203,7 @@ def reached(files, crates):
     return done
 
 
-def show(files, done):
+def show(files: Mapping[str, File], done: Collection[Definition]) -> None:
     sums = [0, 0]
     rank = {crate: at for at, crate in enumerate(order_of_crates())}
     crate_of = {module: module.split(".")[1] for module in files}
@@ -205,9 +218,10 @@ def show(files, done):
     print(f"{sums[0]:5} {sums[1]:5}  lines of these files; lines of these definitions")
 
 
-def lines_by_crate(files, done):
+def lines_by_crate(files: Mapping[str, File],
+                   done: Collection[Definition]) -> dict[str, list[tuple[str, int]]]:
     """By crate, its files with the lines of the definitions that are reached."""
-    found = {crate: [] for crate in order_of_crates()}
+    found: dict[str, list[tuple[str, int]]] = {crate: [] for crate in order_of_crates()}
     for module in sorted(files):
         lines = sum(len(files[module].definitions[it]) for it in files[module].definitions
                     if (module, it) in done)
@@ -216,11 +230,11 @@ def lines_by_crate(files, done):
     return {crate: parts for crate, parts in found.items() if parts}
 
 
-def write(found):
+def write(found: Mapping[str, list[tuple[str, int]]]) -> None:
     """Writes the list of docs/PROOFS.md anew: what it says of each crate stays."""
     path = os.path.join(TOP, "docs", "PROOFS.md")
     text = read(path)
-    said = {}
+    said: dict[str, str] = {}
     for crate, words in re.findall(r"(?ms)^- \*\*(\w+)\*\*, \d+ lines: (.*?)(?=^- \*\*)", text):
         # (the sentence after the last full stop is the list of files)
         meant = " ".join(words.split()).rsplit(". ", 1)[0]
@@ -240,14 +254,14 @@ def write(found):
         file.write(text[:begin] + "\n".join(lines) + f"\n- **all**: {whole:,} lines." + rest)
 
 
-def show_unreached(files, done):
+def show_unreached(files: Mapping[str, File], done: Collection[Definition]) -> None:
     for module, file in sorted(files.items()):
         names = [it for it in file.definitions if (module, it) not in done]
         if names and ".specs.private." not in module:
             print(f"{os.path.relpath(file.path, TOP)}: {', '.join(names)}")
 
 
-def main(words):
+def main(words: list[str]) -> None:
     files = files_of_specs()
     crates = [it for it in words if not it.startswith("--")] or order_of_crates()
     done = reached(files, crates)

@@ -9,11 +9,12 @@ A text has an empty line after each request. Its first line is `store ADDRESS`, 
 import struct
 import subprocess
 import sys
+from collections.abc import Iterator
 
 STATUS = {0: "answer", 1: "refused", 2: "wanting"}
 
 
-def frames(data):
+def frames(data: bytes) -> Iterator[bytes]:
     """The rest of each whole frame of the bytes."""
     at = 0
     while at + 4 <= len(data):
@@ -22,7 +23,7 @@ def frames(data):
         at += 4 + length
 
 
-def body_of(request):
+def body_of(request: str) -> bytes:
     """The kind and the body of a request that is written as text."""
     first, _, query = request.partition("\n")
     word, _, address = first.partition(" ")
@@ -33,14 +34,14 @@ def body_of(request):
     return b"Q" + query.encode() if word == "query" else b"L"
 
 
-def frames_of(text):
+def frames_of(text: str) -> bytes:
     """The frames of the requests that are written as text."""
     requests = text.strip().split("\n\n")
     bodies = [struct.pack(">I", tag) + body_of(request) for tag, request in enumerate(requests, 1)]
     return b"".join(struct.pack(">I", len(body)) + body for body in bodies)
 
 
-def shown_request(body):
+def shown_request(body: bytes) -> tuple[int, str]:
     (tag,), kind, rest = struct.unpack_from(">I", body), body[4:5], body[5:]
     if kind == b"S" and rest:
         address, text = rest[1 : 1 + rest[0]], rest[1 + rest[0] :]
@@ -54,12 +55,12 @@ def shown_request(body):
     return tag, "bytes " + body.hex()
 
 
-def shown_reply(body):
+def shown_reply(body: bytes) -> tuple[int, str]:
     (tag,), status, text = struct.unpack_from(">I", body), body[4], body[5:]
     return tag, "%s: %s" % (STATUS.get(status, "status %d" % status), text.decode())
 
 
-def main():
+def main() -> int:
     server, path = sys.argv[1:3]
     with open(path, "rb") as file:
         data = file.read()

@@ -48,7 +48,8 @@ class Chains(unittest.TestCase):
 
 class Pool(unittest.TestCase):
     def setUp(self) -> None:
-        self.lock, self.begun, self.at_work, self.most = threading.Lock(), [], 0, 0
+        self.lock, self.at_work, self.most = threading.Lock(), 0, 0
+        self.begun: list[str] = []
         self.shares: dict[str, int] = {}
 
     def work(self, crate: House) -> str:

@@ -8,12 +8,13 @@ import pathlib
 import re
 import subprocess
 import sys
+from collections.abc import Iterator
 
 TOP = pathlib.Path(__file__).resolve().parent.parent
 HEX = re.compile(r"^    ([<>]) ((?:[0-9a-f]{2,} ?)+)(?:\s|$)")
 
 
-def dialogue():
+def dialogue() -> Iterator[tuple[str, bytes]]:
     """The lines of the dialogue in order, each '>' or '<' with its bytes."""
     text = (TOP / "docs" / "PROTOCOL.md").read_text()
     for line in text[text.index("## A dialogue"):].splitlines():
@@ -22,9 +23,10 @@ def dialogue():
             yield found.group(1), bytes.fromhex(found.group(2))
 
 
-def main():
+def main() -> int:
     server = subprocess.Popen(
-        sys.argv[1:] or [TOP / "serve"], stdin=subprocess.PIPE, stdout=subprocess.PIPE)
+        sys.argv[1:] or [str(TOP / "serve")], stdin=subprocess.PIPE, stdout=subprocess.PIPE)
+    assert server.stdin and server.stdout
     wrong = 0
     for side, data in dialogue():
         if side == ">":

@@ -25,10 +25,10 @@ REFUSED = (1, "xq_server: cannot open the store\n")
 EDITION_ONE = pathlib.Path(__file__).resolve().parent / "edition1.db"
 # Bytes that no file of a server may pass: its log is made, and has room for some stores.
 FULL = 300_000
-wrong = []
+wrong: list[str] = []
 
 
-def check(what, found, wanted):
+def check(what: str, found: object, wanted: object) -> None:
     """Prints whether the one is the other."""
     verdict = "ok" if found == wanted else "found %r, wanted %r" % (found, wanted)
     print("%-52s %s" % (what, verdict), flush=True)
@@ -36,7 +36,7 @@ def check(what, found, wanted):
         wrong.append(what)
 
 
-def restarts(program, path):
+def restarts(program: pathlib.Path, path: pathlib.Path) -> None:
     """Documents are there after an end of input, after another, and after a drop."""
     first = Server([program, "--file", path])
     check("an absent file holds nothing", first.ask(b"L"), (0, b"()"))
@@ -56,7 +56,7 @@ def restarts(program, path):
     check("the input ends a third time", third.end(), (0, ""))
 
 
-def reads_with_sqlite(path):
+def reads_with_sqlite(path: pathlib.Path) -> None:
     """The tables are as documented, to other readers of such files."""
     rows = sqlite3.connect("file:%s?mode=ro" % path, uri=True).execute(
         "SELECT pre, size, level, kind, name, value FROM node2 INNER JOIN label ON label = id "
@@ -66,12 +66,12 @@ def reads_with_sqlite(path):
           (8, [(0, 7, 0, 0, "", ""), (1, 6, 1, 1, "lib", "")]))
 
 
-def refuses(what, program, path, **how):
+def refuses(what: str, program: pathlib.Path, path: pathlib.Path, user: str | None = None) -> None:
     """The file is refused, its bytes stay, and nothing is left beside it that wasn't there."""
-    def content():
+    def content() -> bytes | None:
         return path.read_bytes() if path.is_file() else None
 
-    def beside():
+    def beside() -> list[str] | None:
         folder = path if path.is_dir() else path.parent
         return sorted(os.listdir(folder)) if folder.is_dir() else None
     before, files = content(), beside()
@@ -80,7 +80,7 @@ def refuses(what, program, path, **how):
     check("  nothing is left beside it", beside(), files)
 
 
-def written_by_sqlite(path, *statements):
+def written_by_sqlite(path: pathlib.Path, *statements: str) -> pathlib.Path:
     """A file that sqlite3 made."""
     file = sqlite3.connect(path)
     for statement in statements:
@@ -90,7 +90,7 @@ def written_by_sqlite(path, *statements):
     return path
 
 
-def damaged(path, copy):
+def damaged(path: pathlib.Path, copy: pathlib.Path) -> pathlib.Path:
     """A copy in which one byte of a stored name is another."""
     data = bytearray(path.read_bytes())
     at = data.rindex(b"book")
@@ -116,7 +116,7 @@ BOOKS = ("INSERT INTO node VALUES ('b', 0, 7, 0, 0, '', ''), ('b', 1, 6, 1, 1, '
          "('b', 5, 2, 2, 1, 'book', ''), ('b', 6, 0, 3, 2, 'id', '2'), ('b', 7, 0, 3, 3, '', 'B')")
 
 
-def bad_files(program, folder, path):
+def bad_files(program: pathlib.Path, folder: pathlib.Path, path: pathlib.Path) -> None:
     """Files that are no store."""
     text = folder / "text"
     text.write_text("This is a text, and no database of any kind.\n" * 200)
@@ -152,7 +152,7 @@ def bad_files(program, folder, path):
         "INSERT INTO node VALUES ('b b', 0, 0, 0, 0, '', '')"))
 
 
-def other_orders(program, folder):
+def other_orders(program: pathlib.Path, folder: pathlib.Path) -> None:
     """Tables that sqlite3 made are served, in either order."""
     orders = ((LAYOUT, NODE, ONE), (NODE, LAYOUT, ONE))
     for number, made in enumerate(orders):
@@ -167,7 +167,7 @@ def other_orders(program, folder):
               Server([program, "--file", path]).ask(b"Q", b'doc("b")'), (0, LIBRARY))
 
 
-def rows_of(path, query):
+def rows_of(path: pathlib.Path, query: str) -> list[tuple[int | str, ...]]:
     """What a query gives of a file that no server has."""
     base = sqlite3.connect("file:%s?mode=ro" % path, uri=True)
     rows = base.execute(query).fetchall()
@@ -175,7 +175,7 @@ def rows_of(path, query):
     return rows
 
 
-def carried_over(program, folder):
+def carried_over(program: pathlib.Path, folder: pathlib.Path) -> None:
     """Of a file of edition 1 the documents are carried over: of one that a server of that edition
     wrote, and of those that sqlite3 makes, whichever table was made first."""
     paths = [shutil.copy(EDITION_ONE, folder / "edition1.db"),
@@ -203,14 +203,14 @@ ROWS = ("SELECT pre, size, level, kind, name, value FROM node2 INNER JOIN label 
         "WHERE address = 'b' ORDER BY pre")
 
 
-def element(chance):
+def element(chance: random.Random) -> str:
     """An element, which may have an attribute and a text."""
     parts = chance.choice(("", 'attribute id {"%d"}')), chance.choice(("", 'text {"%d"}'))
     content = ", ".join(part % chance.randrange(3) for part in parts if part)
     return "element %s {%s}" % (chance.choice("abc"), content)
 
 
-def edit(chance, elements):
+def edit(chance: random.Random, elements: list[str]) -> None:
     """Changes one element, puts one in, takes one out, moves one, or changes them all."""
     at = chance.randrange(len(elements) + 1)
     what = chance.randrange(5)
@@ -226,7 +226,7 @@ def edit(chance, elements):
         elements[:] = [element(chance) for _ in range(10)]
 
 
-def edited(program, folder):
+def edited(program: pathlib.Path, folder: pathlib.Path) -> None:
     """Documents that are put one over the other leave the rows that the last leaves in a new file,
     also where the server was started in between, so that none of its rows are kept."""
     for seed in range(6):
@@ -251,7 +251,7 @@ def edited(program, folder):
         check("  sqlite3 finds the file sound", rows_of(path, "PRAGMA integrity_check"), [("ok",)])
 
 
-def names_of_files(program, folder):
+def names_of_files(program: pathlib.Path, folder: pathlib.Path) -> None:
     """PATH is taken as it stands; the engine can't open two kinds of names, and makes no file for
     them."""
     for name in (":memory:", "file:x"):
@@ -262,7 +262,7 @@ def names_of_files(program, folder):
               Server([program, "--file", "./" + name], cwd=folder).ask(b"L"), (0, b"()"))
 
 
-def taken_over(program, old, new, wanted):
+def taken_over(program: pathlib.Path, old: pathlib.Path, new: pathlib.Path, wanted: bytes) -> None:
     """take_file.sh copies a file, and the copy is served with this document under `b`."""
     script = os.path.join(os.path.dirname(os.path.abspath(__file__)), "take_file.sh")
     taken = subprocess.run([script, old, new], capture_output=True)
@@ -272,7 +272,7 @@ def taken_over(program, old, new, wanted):
           Server([program, "--file", new]).ask(b"Q", b'doc("b")'), (0, wanted))
 
 
-def taken_back(program, folder):
+def taken_back(program: pathlib.Path, folder: pathlib.Path) -> None:
     """What sqlite3 wrote into a file of the server is refused, and take_file.sh copies its
     documents into a new one; it does so of edition 1 as well."""
     path = folder / "written.db"
@@ -285,7 +285,7 @@ def taken_back(program, folder):
     taken_over(program, EDITION_ONE, folder / "taken1.db", LIBRARY)
 
 
-def full_disk(program, folder):
+def full_disk(program: pathlib.Path, folder: pathlib.Path) -> None:
     """Where the log can't grow, a store is refused, the documents are as before, and the server
     goes on."""
     path = folder / "full.db"
@@ -306,11 +306,11 @@ def full_disk(program, folder):
     again.end()
 
 
-def read_by_others(program, folder):
+def read_by_others(program: pathlib.Path, folder: pathlib.Path) -> None:
     """Stock sqlite3 finds the file locked while a server has it; of one that was killed it reads
     the log too, and leaves both so that the next server opens them."""
     path = folder / "killed.db"
-    read = ("sqlite3", "-readonly", path, "SELECT count(*) FROM node2")
+    read = ("sqlite3", "-readonly", str(path), "SELECT count(*) FROM node2")
     server = Server([program, "--file", path])
     check("a document is stored", server.ask(b"S", store(b"b", LIBRARY)), (0, b"stored"))
     beside = subprocess.run(read, capture_output=True, text=True)
@@ -324,7 +324,7 @@ def read_by_others(program, folder):
         again.kill()
 
 
-def unwritable(program, folder, path):
+def unwritable(program: pathlib.Path, folder: pathlib.Path, path: pathlib.Path) -> None:
     """A file that its server may read and not write, which takes a user other than root."""
     if os.geteuid() != 0:
         path.chmod(0o444)
@@ -337,7 +337,7 @@ def unwritable(program, folder, path):
     refuses("a file that may only be read", copy, path, user="nobody")
 
 
-def main():
+def main() -> int:
     program = built()
     with tempfile.TemporaryDirectory() as name:
         folder = pathlib.Path(name)

@@ -77,7 +77,7 @@ TRIED = (
 )
 
 
-def said(folder, text):
+def said(folder: str, text: str) -> tuple[int, str, str]:
     """What the compiler says of the program, and what the program writes."""
     with open(os.path.join(folder, "src", "main.rt"), "w") as source:
         source.write(text)
@@ -86,7 +86,7 @@ def said(folder, text):
     return done.returncode, done.stdout.decode(), done.stderr.decode()
 
 
-def is_right(program, moved, answer):
+def is_right(program: str, moved: str | None, answer: tuple[int, str, str]) -> bool:
     """Whether it compiles and counts one address, or its one error names the moved value there."""
     status, written, messages = answer
     if moved is None:
@@ -100,7 +100,7 @@ def is_right(program, moved, answer):
             and "borrow of moved value: `%s`" % moved in errors[0])
 
 
-def main():
+def main() -> int:
     wrong = 0
     with tempfile.TemporaryDirectory() as scratch:
         begin(scratch, crates_below(USES), ("out", "must-fail", "more-edits"))

@@ -9,6 +9,7 @@ import pathlib
 import shutil
 import subprocess
 import sys
+from collections.abc import Collection, Iterable
 
 from repository import all_below, libraries
 
@@ -21,18 +22,19 @@ os.environ.setdefault("GLIBC_TUNABLES", ":".join((
     "glibc.malloc.mxfast=0")))
 
 
-def lines_of(crates):
+def lines_of(crates: Collection[str]) -> list[str]:
     """The lines of crates.txt for these crates."""
     with open(os.path.join(TOP, "crates.txt")) as lines:
         return [line for line in lines if line.split(":")[0] in crates]
 
 
-def crates_below(uses):
+def crates_below(uses: Iterable[str]) -> set[str]:
     """These crates of the repository, and those that they stand on."""
     return set(all_below(uses, libraries(os.path.join(TOP, "crates.txt"))))
 
 
-def begin(folder, crates, leave_out=("incremental", "must-fail")):
+def begin(folder: str, crates: Iterable[str],
+          leave_out: Iterable[str] = ("incremental", "must-fail")) -> None:
     """Makes the folder a workspace of copies of the crates and those below, with what is built.
 
     What was built in the folder before stays, so that nothing is proved twice there."""
@@ -50,7 +52,7 @@ def begin(folder, crates, leave_out=("incremental", "must-fail")):
         lines.writelines(lines_of(crates))
 
 
-def copy_proofs(source, target):
+def copy_proofs(source: str, target: str) -> None:
     """Copies a folder of proofs, each FILE.txt as FILE.antt."""
     for folder, _, names in os.walk(source):
         into = os.path.join(target, os.path.relpath(folder, source))
@@ -60,7 +62,8 @@ def copy_proofs(source, target):
                         os.path.join(into, os.path.splitext(name)[0] + ".antt"))
 
 
-def built(folder, crates, uses, source, proofs=None, name="program"):
+def built(folder: str, crates: Iterable[str], uses: Iterable[str], source: str,
+          proofs: str | None = None, name: str = "program") -> str:
     """Proves and builds the program over copies of the crates in the folder; gives its path.
 
     The folder of proofs, where there is one, holds those of the program, in files that end in .txt:
@@ -84,7 +87,7 @@ def built(folder, crates, uses, source, proofs=None, name="program"):
     return path
 
 
-def bench_program(folder, name, uses):
+def bench_program(folder: str, name: str, uses: Iterable[str]) -> str:
     """The path of the program of bench/NAME/main.rattle, built in the folder unless it is there.
 
     Where XQ_WORKSPACE names a folder, it is built there, beside the programs of other benchmarks

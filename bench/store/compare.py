@@ -12,6 +12,7 @@ import os
 import statistics
 import subprocess
 import sys
+from collections.abc import Mapping
 
 HERE = os.path.dirname(os.path.abspath(__file__))
 RUNS = {1_000: 31, 10_000: 11, 100_000: 3}
@@ -27,14 +28,14 @@ what, program, folder = sys.argv[1:4]
 counter = sys.argv[4] if len(sys.argv) > 4 else None
 
 
-def lines_of(*words, **environment):
+def lines_of(*words: str, **environment: str) -> list[list[str]]:
     """The lines of a program, as words."""
     done = subprocess.run(words, check=True, capture_output=True, text=True,
                           env={**os.environ, **environment})
     return [line.split() for line in done.stdout.splitlines()]
 
 
-def run_once(times, *words):
+def run_once(times: dict[str, list[int]], *words: str) -> None:
     """Adds the microseconds of each call of one run, in new files."""
     for name in os.listdir(folder):
         if ".db" in name:
@@ -43,7 +44,7 @@ def run_once(times, *words):
         times.setdefault(name, []).append(max(int(time), 1))
 
 
-def times_of(rows):
+def times_of(rows: int) -> dict[tuple[str, str], dict[str, float]]:
     """Microseconds of each call, the median of some runs: C's in memory and in a file, and ours on
     both kinds."""
     words = {("c", "memory"): ("python3", os.path.join(HERE, "csqlite.py"), str(rows), ":memory:"),
@@ -51,7 +52,7 @@ def times_of(rows):
                              os.path.join(folder, "c.db")),
              ("ours", "disks"): (program, "disks", str(rows), ""),
              ("ours", "file"): (program, "file", str(rows), os.path.join(folder, "ours.db"))}
-    times = {key: {} for key in words}
+    times: dict[tuple[str, str], dict[str, list[int]]] = {key: {} for key in words}
     for _ in range(RUNS[rows]):
         for key, these in words.items():
             run_once(times[key], *these)
@@ -59,7 +60,8 @@ def times_of(rows):
             for key, these in times.items()}
 
 
-def report(kind, rows, ours, theirs, there):
+def report(kind: str, rows: int, ours: Mapping[str, float], theirs: Mapping[str, float],
+           there: str) -> None:
     ratios = {name: ours[name] / theirs[name] for name in CALLS}
     beyond = [name for name, limit in LIMITS.items()
               if there == "memory" and kind == "disks" and ratios[name] > limit]
@@ -68,8 +70,8 @@ def report(kind, rows, ours, theirs, there):
           + (f"   BEYOND THE LIMIT: {', '.join(beyond)}" if beyond else ""))
 
 
-def compare():
-    times = {}
+def compare() -> None:
+    times: dict[tuple[str, int], dict[str, float]] = {}
     for rows in ROWS:
         found = times_of(rows)
         for kind, others in (("disks", ("memory",)), ("file", ("memory", "file"))):
@@ -88,19 +90,19 @@ def compare():
                       + (f"   BEYOND THE LIMIT {GROWTH}" if growth > GROWTH else ""))
 
 
-def resident():
+def resident() -> dict[str, int]:
     """The bytes that the process has resident, by the name of the moment."""
     lines = lines_of(program, "held", str(ROWS[-1]), "")
     return {words[0]: int(words[2]) * PAGE for words in lines}
 
 
-def allocated():
+def allocated() -> dict[str, tuple[int, int]]:
     """The bytes allocated and not freed, and those in blocks of 64 KiB, by the moment's name."""
-    lines = lines_of(program, "held", str(ROWS[-1]), "", LD_PRELOAD=counter)
+    lines = lines_of(program, "held", str(ROWS[-1]), "", LD_PRELOAD=counter or "")
     return {words[6]: (int(words[1]), int(words[5])) for words in lines}
 
 
-def memory():
+def memory() -> None:
     """The database is the one that the last run in a file left, without its log; it never gets
     shorter."""
     size = os.path.getsize(os.path.join(folder, "ours.db"))

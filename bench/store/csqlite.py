@@ -3,6 +3,7 @@ document."""
 import sqlite3
 import sys
 import time
+from collections.abc import Callable, Iterator
 
 rows, path = int(sys.argv[1]), sys.argv[2]
 SINGLE = 100
@@ -26,7 +27,7 @@ base.execute("INSERT INTO label VALUES (0, '')")
 base.execute("INSERT INTO layout VALUES (2)")
 
 
-def document(count):
+def document(count: int) -> Iterator[tuple[int, int, int, int, str, str]]:
     yield 0, count - 1, 0, 0, "", ""
     if count > 1:
         yield 1, count - 2, 1, 1, "element", ""
@@ -34,10 +35,10 @@ def document(count):
         yield pre, 0, 2, 4, "", "some text that is a value"
 
 
-def put(address, count):
+def put(address: str, count: int) -> None:
     base.execute("BEGIN")
     base.execute(DELETE, (address,))
-    numbers = {}
+    numbers: dict[str, int | None] = {}
     for pre, size, level, kind, name, value in document(count):
         if name not in numbers:
             found = base.execute(FIND, (name,)).fetchone()
@@ -46,18 +47,18 @@ def put(address, count):
     base.execute("COMMIT")
 
 
-def load():
+def load() -> int:
     return len(base.execute(RANGE, ("m", 0, 4294967295)).fetchall())
 
 
-def put_single():
+def put_single() -> None:
     for number in range(SINGLE):
         put(f"single/{number}", 1)
 
 
 put("a", 100)
 put("z", 100)
-calls = (("put", lambda: put("m", rows)), ("load", load), ("first", lambda: put("first", 1)),
+calls: tuple[tuple[str, Callable[[], object]], ...] = (("put", lambda: put("m", rows)), ("load", load), ("first", lambda: put("first", 1)),
          ("single", put_single), ("replace", lambda: put("m", rows)),
          ("drop", lambda: base.execute(DELETE, ("m",))))
 for name, call in calls:

@@ -16,6 +16,8 @@ import statistics
 import subprocess
 import sys
 import tempfile
+from collections.abc import Hashable, Mapping, Sequence
+from typing import TypeAlias
 
 ROWS, MANY_ROWS = 100_000, 1_000_000
 NAMES = (2, 20, 2_000)
@@ -26,10 +28,14 @@ NEW_RANGE = ("SELECT pre, size, level, kind, name, value FROM node2 INNER JOIN l
              " WHERE address = ?1 AND pre >= ?2 AND pre <= ?3 ORDER BY pre")
 RANGE, PUT, CARRY = 1.6, 1.15, 2
 
+# By the keys of the runs, what each took.
+Times: TypeAlias = dict[Hashable, list[int]]
 
-def run(*words):
+
+def run(*words: str | int) -> dict[str, int]:
     """The times that a program prints, in microseconds by their names, and its most memory."""
     process = subprocess.Popen([str(word) for word in words], stdout=subprocess.PIPE)
+    assert process.stdout
     lines = process.stdout.read().decode().splitlines()
     _, status, usage = os.wait4(process.pid, 0)
     if status:
@@ -38,7 +44,7 @@ def run(*words):
     return times | {"memory": usage.ru_maxrss * 1024}
 
 
-def absent(path):
+def absent(path: str) -> str:
     """The path, with nothing there."""
     for name in (path, f"{path}-wal"):
         if os.path.exists(name):
@@ -46,13 +52,14 @@ def absent(path):
     return path
 
 
-def add(times, found, names):
+def add(times: Times, found: Mapping[str, int], names: Mapping[str, Hashable]) -> None:
     """Adds what was found to the lists of times."""
     for name, key in names.items():
         times.setdefault(key, []).append(found[name])
 
 
-def ratio(times, key, old, new, limit=None):
+def ratio(times: Times, key: str, old: Hashable, new: Hashable,
+          limit: float | None = None) -> None:
     """Prints the least and the median of both, and how many times as long the second takes."""
     least = min(times[new]) / min(times[old])
     median = statistics.median(times[new]) / statistics.median(times[old])
@@ -62,11 +69,11 @@ def ratio(times, key, old, new, limit=None):
           flush=True)
 
 
-def of_names(programs, folder, names):
+def of_names(programs: Sequence[str], folder: str, names: int) -> None:
     """A document of so many names."""
     old, new = programs
     paths = [os.path.join(folder, name) for name in ("old.db", "new.db")]
-    times = {}
+    times: Times = {}
     for _ in range(RUNS):
         for which, (program, path) in enumerate(zip(programs, paths)):
             found = run(program, "named", ROWS, absent(path), names)
@@ -82,14 +89,14 @@ def of_names(programs, folder, names):
         ratio(times, f"  {name}", (name, 0), (name, 1), limit)
 
 
-def carried_over(programs, folder):
+def carried_over(programs: Sequence[str], folder: str) -> None:
     """A file of edition 1 that is opened."""
     old, new = programs
     written = os.path.join(folder, "written.db")
     before = run(old, "named", MANY_ROWS, absent(written), 20)
     print(f"{MANY_ROWS} rows, edition 1: put in {before['put'] / 1e6:.2f} s,"
           f" {os.path.getsize(written) / 1e6:.1f} MB", flush=True)
-    times = {}
+    times: Times = {}
     for _ in range(MANY_RUNS):
         put = run(new, "named", MANY_ROWS, absent(os.path.join(folder, "put.db")), 20)
         add(times, put, {"put": "put"})
@@ -108,7 +115,7 @@ def carried_over(programs, folder):
           f" a new one: {os.path.getsize(os.path.join(folder, 'put.db')) / 1e6:.1f} MB")
 
 
-def main():
+def main() -> None:
     if len(sys.argv) not in (3, 4):
         sys.exit(__doc__)
     programs = sys.argv[1:3]

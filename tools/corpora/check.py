@@ -4,12 +4,14 @@ The last lines are 'passed N of M', and 'CODE N of M' for each code that tokens,
 static checks refuse by. Any other code is of evaluation: such a query has to pass.
 """
 
+import argparse
 import shutil
 import subprocess
 import tempfile
 from collections import Counter
+from collections.abc import Iterable
 
-from corpora.lines import lines_of
+from corpora.lines import Line, lines_of
 from workspace import built
 
 CRATES = ("xq_atoms", "xq_lexer", "xq_expressions", "xq_parser", "xq_statics")
@@ -53,11 +55,11 @@ fn main(rt: HostRuntime) -> io::Result<()> {
 """
 
 
-def add_options(parser):
+def add_options(parser: argparse.ArgumentParser) -> None:
     parser.add_argument("corpus", metavar="CORPUS")
 
 
-def outcomes_of(rows):
+def outcomes_of(rows: Iterable[Line]) -> list[str]:
     """How the check of each row's text ends. Line ends are read as line feeds, as the server
     does."""
     texts = (row["q"].replace("\r\n", "\n").replace("\r", "\n") for row in rows)
@@ -71,14 +73,15 @@ def outcomes_of(rows):
         shutil.rmtree(folder)
 
 
-def wanted_of(row):
+def wanted_of(row: Line) -> str:
     """What the check has to say of a row."""
-    return row["e"] if row.get("e") in CODES else "passed"
+    return str(row["e"]) if row.get("e") in CODES else "passed"
 
 
-def run(given):
+def run(given: argparse.Namespace) -> int:
     rows = lines_of(given.corpus)
-    right, total = Counter(), Counter()
+    right: Counter[str] = Counter()
+    total: Counter[str] = Counter()
     for row, outcome in zip(rows, outcomes_of(rows), strict=True):
         wanted = wanted_of(row)
         total[wanted] += 1

@@ -8,14 +8,16 @@ Prints the queries whose row is refused and those that pass the checker's limit 
 its line in public.jsonl, and last 'agree N of M'.
 """
 
+import argparse
 import json
 import os
 import re
 import subprocess
 import sys
 import tempfile
+from collections.abc import Iterator, Mapping, Sequence
 
-from corpora.lines import lines_of
+from corpora.lines import Line, lines_of
 from rows import documents
 from rows.files import Row, file_of
 from rows.terms import meaning
@@ -32,15 +34,16 @@ COMPUTED = re.compile(r"computed as far as they go, the two types (.*)")
 PAST_LIMIT = "stopped at the step limit"
 
 
-def documents_of(folder, wanted):
+def documents_of(folder: str, wanted: str) -> dict[str, str]:
     """The documents of a set, by address."""
     for line in lines_of(os.path.join(folder, "docs.jsonl")):
         if line["s"] == wanted:
-            return line["docs"]
+            documents_by_address: dict[str, str] = line["docs"]
+            return documents_by_address
     sys.exit(f"no set {wanted} in {folder}")
 
 
-def is_evaluated(line):
+def is_evaluated(line: Line) -> bool:
     """Whether the definitions give the query of a line a meaning: it is not refused before."""
     code = line.get("e")
     try:
@@ -52,7 +55,7 @@ def is_evaluated(line):
     return code not in BEFORE_EVALUATION
 
 
-def rows_of(folder, wanted):
+def rows_of(folder: str, wanted: str) -> Iterator[Row]:
     """The rows of a set, each named by its line."""
     for count, line in enumerate(lines_of(os.path.join(folder, "public.jsonl")), 1):
         if line["s"] == wanted and is_evaluated(line):
@@ -60,13 +63,13 @@ def rows_of(folder, wanted):
             yield Row(f"line_{count}", line["q"], answer, "a" not in line)
 
 
-def write(path, text):
+def write(path: str, text: str) -> None:
     os.makedirs(os.path.dirname(path), exist_ok=True)
     with open(path, "w") as file:
         file.write(text)
 
 
-def write_crate(folder, documents_by_address):
+def write_crate(folder: str, documents_by_address: dict[str, str]) -> str:
     """A crate over the others, with the documents and no rows yet; gives its folder."""
     begin(folder, CRATES, leave_out=("must-fail",))
     with open(os.path.join(folder, "crates.txt"), "a") as lines:
@@ -78,7 +81,7 @@ def write_crate(folder, documents_by_address):
     return crate
 
 
-def write_rows(crate, files):
+def write_rows(crate: str, files: Mapping[str, Sequence[Row]]) -> None:
     """The files of rows, by their modules; one that has none left is left out."""
     modules = ["pub mod Documents"]
     for name, rows in files.items():
@@ -90,7 +93,7 @@ def write_rows(crate, files):
     write(f"{crate}/proofs/Lib.antt", "\n".join(modules) + "\n")
 
 
-def faults_of(crate):
+def faults_of(crate: str) -> dict[str, str]:
     """What the checker has against rows, by their names."""
     done = subprocess.run(["rt", "check"], cwd=crate, capture_output=True, text=True)
     faults = dict(FAULT.findall(done.stdout + done.stderr))
@@ -99,10 +102,10 @@ def faults_of(crate):
     return faults
 
 
-def all_faults(crate, rows):
+def all_faults(crate: str, rows: Sequence[Row]) -> dict[str, str]:
     """The faults of all rows; one can hide others, so rows are taken out until none has one."""
     files = {f"Rows{at}": rows[at:at + ROWS_A_FILE] for at in range(0, len(rows), ROWS_A_FILE)}
-    found = {}
+    found: dict[str, str] = {}
     while True:
         write_rows(crate, files)
         faults = faults_of(crate)
@@ -113,7 +116,7 @@ def all_faults(crate, rows):
                  for name, part in files.items()}
 
 
-def told(fault):
+def told(fault: str) -> str:
     """In which way a row is refused."""
     if PAST_LIMIT in fault:
         return "past the limit of steps"
@@ -121,13 +124,13 @@ def told(fault):
     return f"differs ({computed.group(1)})" if computed else "differs"
 
 
-def add_options(parser):
+def add_options(parser: argparse.ArgumentParser) -> None:
     parser.add_argument("corpus", metavar="FOLDER", help="has docs.jsonl and public.jsonl")
     parser.add_argument("set", metavar="SET")
     parser.add_argument("--most", type=int, metavar="N")
 
 
-def run(given):
+def run(given: argparse.Namespace) -> int:
     documents_by_address = documents_of(given.corpus, given.set)
     rows = list(rows_of(given.corpus, given.set))[:given.most]
     with tempfile.TemporaryDirectory() as folder:

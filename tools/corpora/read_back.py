@@ -4,10 +4,12 @@ Each row of a corpus with an answer is asked over the documents of its set. The 
 fits a frame is then asked of a server that keeps nothing, and its reply has to be the same text.
 """
 
+import argparse
 import collections
 import os
 import shlex
 import sys
+from collections.abc import Iterable, Iterator
 
 import harness
 from corpora.lines import lines_of
@@ -15,9 +17,10 @@ from corpora.lines import lines_of
 LONGEST = 1048576
 
 
-def sets_of(paths):
+def sets_of(paths: Iterable[str]) -> list[tuple[dict[str, str], list[str]]]:
     """By set, its documents and the queries that have an answer."""
-    documents, queries = {}, collections.defaultdict(list)
+    documents: dict[str, dict[str, str]] = {}
+    queries: dict[str, list[str]] = collections.defaultdict(list)
     for path in paths:
         beside = os.path.join(os.path.dirname(path), "docs.jsonl")
         documents.update((row["s"], row["docs"]) for row in lines_of(beside))
@@ -27,26 +30,27 @@ def sets_of(paths):
     return [(documents[name], queries[name]) for name in sorted(queries)]
 
 
-def answers(server, documents, queries):
+def answers(server: harness.Server, documents: dict[str, str],
+            queries: Iterable[str]) -> Iterator[tuple[str, bytes]]:
     """The texts that the server answers to the queries, over these documents alone."""
     for address, text in documents.items():
         server.ask(b"S", harness.store(address.encode(), text.encode()))
     for query in queries:
-        status, text = server.ask(b"Q", query.encode())
+        status, answer = server.answer(b"Q", query.encode())
         if status != 0:
-            sys.exit("refused as %s: %s" % (text.decode(), query))
-        yield query, text
+            sys.exit("refused as %s: %s" % (answer.decode(), query))
+        yield query, answer
     for address in documents:
         server.ask(b"D", address.encode())
 
 
-def add_options(parser):
+def add_options(parser: argparse.ArgumentParser) -> None:
     parser.add_argument("corpus", nargs="+", metavar="CORPUS")
     parser.add_argument("--server", metavar="COMMAND", help="in place of this repository's program")
 
 
-def run(given):
-    command = shlex.split(given.server) if given.server else [harness.built()]
+def run(given: argparse.Namespace) -> int:
+    command = shlex.split(given.server) if given.server else [str(harness.built())]
     server, empty = harness.Server(command), harness.Server(command)
     count = long = 0
     for documents, queries in sets_of(given.corpus):
@@ -57,6 +61,6 @@ def run(given):
             count += 1
             again = empty.ask(b"Q", text)
             if again != (0, text):
-                sys.exit("%s\nanswers %s\nwhich reads back as %s" % (query, text[:400], again))
+                sys.exit("%s\nanswers %s\nwhich reads back as %s" % (query, repr(text[:400]), again))
     print("%d replies give themselves; %d are longer than a frame" % (count, long))
     return 0

@@ -1,7 +1,10 @@
 """Writes documents, given by their constructors, as trees for worked rows."""
 
+from collections.abc import Mapping
+
 from rows import queries as form
-from rows.terms import is_plain, quoted, written
+from rows.terms import Term, is_plain, quoted, written
+from rows.tokens import Name
 
 NODES = {"attribute": "att", "processing-instruction": "ins", "text": "tex", "comment": "note"}
 # Beside the words of Library, those for nodes whose values have characters beyond ASCII.
@@ -33,37 +36,49 @@ ins8 s value = node (label kind.ProcessingInstruction (codes s) (utf8 value)) en
 """
 
 
-def parts_of(content):
+def parts_of(content: form.Form) -> list[form.Form]:
     """The parts of what stands in braces."""
     return content.parts if isinstance(content, form.Sequence) else [content]
 
 
-def value_of(content):
+def value_of(content: form.Form) -> str:
     """The value of a node whose content is one string, or nothing."""
-    return "" if content == form.Sequence([]) else content.text
+    if content == form.Sequence([]):
+        return ""
+    assert isinstance(content, form.String), content
+    return content.text
 
 
-def node_of(constructor):
+def local_of(constructor: form.Named) -> str:
+    """The local part of the name of a node, which is written out."""
+    assert isinstance(constructor.name, Name), constructor
+    return constructor.name.local
+
+
+def node_of(constructor: form.Form) -> Term:
     """The term of a node."""
-    if constructor.kind == "element":
+    assert isinstance(constructor, (form.Named, form.Unnamed)), constructor
+    if isinstance(constructor, form.Named) and constructor.kind == "element":
         parts = list(map(node_of, parts_of(constructor.content)))
-        return ("el", quoted(constructor.name.local), parts)
+        return ("el", quoted(local_of(constructor)), parts)
     value = value_of(constructor.content)
     word = NODES[constructor.kind] + ("" if is_plain(value) else "8")
     if isinstance(constructor, form.Named):
-        return (word, quoted(constructor.name.local), quoted(value))
+        return (word, quoted(local_of(constructor)), quoted(value))
     return (word, quoted(value))
 
 
-def tree_of(text):
+def tree_of(text: str) -> Term:
     """The term of the document that a constructor's text gives."""
-    return ("tree", list(map(node_of, parts_of(form.tree(text).content))))
+    document = form.tree(text)
+    assert isinstance(document, form.Unnamed), document
+    return ("tree", list(map(node_of, parts_of(document.content))))
 
 
-def file_of(documents):
+def file_of(documents: Mapping[str, str]) -> str:
     """A file that defines the documents, by the bytes of their addresses, and `answer`."""
     addresses = sorted(documents, key=str.encode)
-    names = [f"document{at}" for at in range(len(addresses))]
+    names: list[Term] = [f"document{at}" for at in range(len(addresses))]
     parts = [HEAD]
     for name, address in zip(names, addresses):
         tree = written(tree_of(documents[address]))

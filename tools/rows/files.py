@@ -3,9 +3,10 @@
 import os
 import re
 import textwrap
+from collections.abc import Collection, Iterable, Iterator, Sequence
 from typing import NamedTuple
 
-from rows.terms import is_plain, meaning, quoted, words, written
+from rows.terms import Term, is_plain, meaning, quoted, words, written
 
 TOP = os.path.dirname(os.path.dirname(os.path.dirname(os.path.abspath(__file__))))
 WRITING = os.path.join(TOP, "crates/xq_meaning/proofs/Writing.antt")
@@ -29,25 +30,25 @@ class Row(NamedTuple):
     is_refused: bool
 
 
-def statement_of(row):
+def statement_of(row: Row) -> tuple[Term, Term]:
     """The two sides of a row: the term of the query's meaning, and that of its result."""
     return meaning(row.query), result_of(row)
 
 
-def result_of(row):
+def result_of(row: Row) -> Term:
     """The term of what a row gives."""
     if row.is_refused:
         return ("Err", variant_of(row.answer))
     return ("Ok", ("codes" if is_plain(row.answer) else "utf8", quoted(row.answer)))
 
 
-def variant_of(code):
+def variant_of(code: str) -> str:
     """The variant of crates/xq_atoms's Code for the code that is spelled so."""
     prefix, colon, name = code.partition(":")
     return prefix.capitalize() + name.capitalize() if colon else code
 
 
-def text_of(row, encodes=False):
+def text_of(row: Row, encodes: bool = False) -> str:
     """A row: its query as a comment, its statement, and its proof, which is computing.
 
     It encodes characters where the query or its answer has any beyond ASCII; `encodes` says that
@@ -63,18 +64,18 @@ def text_of(row, encodes=False):
                       f"unfolding digits chars{unfolded}", f"{row.name} = refl"))
 
 
-def needs_encoding(row):
+def needs_encoding(row: Row) -> bool:
     """Whether characters are encoded as the row is computed, as substring does with any."""
     used = set().union(*map(words, statement_of(row)))
     return bool(used & {"txt8", "utf8"}) or "substring" in row.query
 
 
-def needs_names(row):
+def needs_names(row: Row) -> bool:
     """Whether a name is judged as the row is computed: that of a node that a constructor makes."""
     return bool(words(statement_of(row)[0]) & NAMED)
 
 
-def wrapped(line):
+def wrapped(line: str) -> str:
     """The line, broken at spaces that stand outside of quoted texts."""
     first, *rest = re.findall(r'(?:"(?:\\.|[^"\\])*"|[^ "])+', line)
     lines = [first]
@@ -86,13 +87,13 @@ def wrapped(line):
     return "\n".join(lines)
 
 
-def file_of(title, rows, answers, encodes=False):
+def file_of(title: str, rows: Sequence[Row], answers: str, encodes: bool = False) -> str:
     """A file of rows; answers is the module that defines what a meaning is answered by."""
     head = "\n".join((f"-- {title}", *imports_of(rows, answers, encodes)))
     return "\n\n".join((head, *(text_of(row, encodes) for row in rows))) + "\n"
 
 
-def imports_of(rows, answers, encodes):
+def imports_of(rows: Sequence[Row], answers: str, encodes: bool) -> Iterator[str]:
     """What the file brings in: only what it uses."""
     used = set().union(*(words(side) for row in rows for side in statement_of(row)))
     yield brought("Rattle.std.specs.Prelude", ["◌≡◌", "refl", *among(PRELUDE, used)])
@@ -110,7 +111,7 @@ def imports_of(rows, answers, encodes):
     yield brought(answers, ["answer"])
 
 
-def imports_of_operators(used):
+def imports_of_operators(used: set[str]) -> Iterator[str]:
     module = "Rattle.xq_expressions.specs.declared.operators.%s.TheVariants"
     for kind, variants in VARIANTS.items():
         if used.intersection(variants):
@@ -120,17 +121,17 @@ def imports_of_operators(used):
             yield f"use {module % kind} as {alias}"
 
 
-def words_of_writing():
+def words_of_writing() -> list[str]:
     """The words that Writing defines, in its order."""
     with open(WRITING) as file:
         return re.findall(r"(?m)^abbrev pub (\S+) :", file.read())
 
 
-def brought(module, names):
+def brought(module: str, names: Iterable[str]) -> str:
     """The line that brings these names in."""
     return f"use {module}.{{{', '.join(names)}}}"
 
 
-def among(names, used):
+def among(names: Iterable[str], used: Collection[str]) -> list[str]:
     """Those of the names that are used, in their order."""
     return [name for name in names if name in used]

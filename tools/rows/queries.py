@@ -4,70 +4,320 @@ The forms are those of crates/xq_expressions. Static checks are not made: a vari
 bound, or a call of no function, is read as any other.
 """
 
-from collections import namedtuple
+from __future__ import annotations
+
+from collections.abc import Callable, Mapping
+from typing import NamedTuple, TypeAlias, TypeVar
 
 from rows.tokens import Name, Refused, Token, tokens
 
+# Any expression, clause, step or test: one of the classes below.
+Form: TypeAlias = tuple[object, ...]
+Part = TypeVar("Part")
+
 # Primary expressions.
-Integer = namedtuple("Integer", "value")
-Decimal = namedtuple("Decimal", "millionths")
-String = namedtuple("String", "text")
-Variable = namedtuple("Variable", "name")
-ContextItem = namedtuple("ContextItem", "")
-Sequence = namedtuple("Sequence", "parts")
-Call = namedtuple("Call", "name arguments")
+
+
+class Integer(NamedTuple):
+    """An integer literal."""
+
+    value: int
+
+
+class Decimal(NamedTuple):
+    """A decimal literal."""
+
+    millionths: int
+
+
+class String(NamedTuple):
+    """A string literal."""
+
+    text: str
+
+
+class Variable(NamedTuple):
+    """A use of a variable."""
+
+    name: Name
+
+
+class ContextItem(NamedTuple):
+    """The context item."""
+
+
+class Sequence(NamedTuple):
+    """Parts between commas, or none."""
+
+    parts: list[Form]
+
+
+class Call(NamedTuple):
+    """A function call."""
+
+    name: Name
+    arguments: list[Form]
 
 # Operators. A chain has pairs of an operator and its right operand.
-Or = namedtuple("Or", "parts")
-And = namedtuple("And", "parts")
-Comparison = namedtuple("Comparison", "left kind relation right")
-Concat = namedtuple("Concat", "parts")
-Range = namedtuple("Range", "first last")
-Sum = namedtuple("Sum", "first rest")
-Product = namedtuple("Product", "first rest")
-Union = namedtuple("Union", "parts")
-SetOperation = namedtuple("SetOperation", "first rest")
-Unary = namedtuple("Unary", "signs part")
+
+
+class Or(NamedTuple):
+    """Parts joined by `or`."""
+
+    parts: list[Form]
+
+
+class And(NamedTuple):
+    """Parts joined by `and`."""
+
+    parts: list[Form]
+
+
+class Comparison(NamedTuple):
+    """A comparison of any kind."""
+
+    left: Form
+    kind: str
+    relation: str
+    right: Form
+
+
+class Concat(NamedTuple):
+    """Parts joined by `||`."""
+
+    parts: list[Form]
+
+
+class Range(NamedTuple):
+    """The integers from one to another."""
+
+    first: Form
+    last: Form
+
+
+class Sum(NamedTuple):
+    """A chain of `+` and `-`."""
+
+    first: Form
+    rest: list[tuple[str, Form]]
+
+
+class Product(NamedTuple):
+    """A chain of `*`, `div`, `idiv` and `mod`."""
+
+    first: Form
+    rest: list[tuple[str, Form]]
+
+
+class Union(NamedTuple):
+    """Parts joined by `|`."""
+
+    parts: list[Form]
+
+
+class SetOperation(NamedTuple):
+    """A chain of `intersect` and `except`."""
+
+    first: Form
+    rest: list[tuple[str, Form]]
+
+
+class Unary(NamedTuple):
+    """Signs before a part."""
+
+    signs: list[str]
+    part: Form
 # The calls are pairs of a name and the arguments after the first.
-Arrow = namedtuple("Arrow", "first calls")
-Map = namedtuple("Map", "parts")
-If = namedtuple("If", "condition yes no")
-Quantified = namedtuple("Quantified", "quantifier bindings condition")
+
+
+class Arrow(NamedTuple):
+    """A part and the calls that it goes through."""
+
+    first: Form
+    calls: list[tuple[Name, list[Form]]]
+
+
+class Map(NamedTuple):
+    """Parts joined by `!`."""
+
+    parts: list[Form]
+
+
+class If(NamedTuple):
+    """A conditional expression."""
+
+    condition: Form
+    yes: Form
+    no: Form
+
+
+class Quantified(NamedTuple):
+    """`some` or `every`."""
+
+    quantifier: str
+    bindings: list[Binding]
+    condition: Form
 
 # Paths: pairs of a separator and a step follow the first step.
-Root = namedtuple("Root", "")
-Path = namedtuple("Path", "start first rest")
-PrimaryStep = namedtuple("PrimaryStep", "part predicates")
-ParentStep = namedtuple("ParentStep", "predicates")
-AttributeStep = namedtuple("AttributeStep", "test predicates")
-AxisStep = namedtuple("AxisStep", "axis test predicates")
-ShortStep = namedtuple("ShortStep", "test predicates")
-NameTest = namedtuple("NameTest", "name")
-KindTest = namedtuple("KindTest", "kind")
-NamedKindTest = namedtuple("NamedKindTest", "kind name")
+
+
+class Root(NamedTuple):
+    """A slash alone."""
+
+
+class Path(NamedTuple):
+    """Steps from a start."""
+
+    start: str
+    first: Form
+    rest: list[tuple[str, Form]]
+
+
+class PrimaryStep(NamedTuple):
+    """A primary expression as a step."""
+
+    part: Form
+    predicates: list[Form]
+
+
+class ParentStep(NamedTuple):
+    """The step `..`."""
+
+    predicates: list[Form]
+
+
+class AttributeStep(NamedTuple):
+    """A step that begins with `@`."""
+
+    test: Form
+    predicates: list[Form]
+
+
+class AxisStep(NamedTuple):
+    """A step with its axis."""
+
+    axis: str
+    test: Form
+    predicates: list[Form]
+
+
+class ShortStep(NamedTuple):
+    """A step without its axis."""
+
+    test: Form
+    predicates: list[Form]
+
+
+class NameTest(NamedTuple):
+    """A test by name."""
+
+    name: Name
+
+
+class KindTest(NamedTuple):
+    """A test by kind."""
+
+    kind: str
+
+
+class NamedKindTest(NamedTuple):
+    """A test by kind and name."""
+
+    kind: str
+    name: Name | None
 
 # Constructors: the name is a Name, or the expression that gives it.
-Named = namedtuple("Named", "kind name content")
-Unnamed = namedtuple("Unnamed", "kind content")
+
+
+class Named(NamedTuple):
+    """A constructor of a node with a name."""
+
+    kind: str
+    name: Name | Form
+    content: Form
+
+
+class Unnamed(NamedTuple):
+    """A constructor of a node without a name."""
+
+    kind: str
+    content: Form
 
 # FLWOR.
-Flwor = namedtuple("Flwor", "clauses result")
-For = namedtuple("For", "bindings")
-Each = namedtuple("Each", "name allows_empty position range")
-Let = namedtuple("Let", "bindings")
-Binding = namedtuple("Binding", "name value")
-Where = namedtuple("Where", "condition")
-Group = namedtuple("Group", "bindings")
-Order = namedtuple("Order", "keys")
-Count = namedtuple("Count", "name")
-Key = namedtuple("Key", "part descends is_empty_greatest")
 
 
-def symbol(text):
+class Flwor(NamedTuple):
+    """A FLWOR expression."""
+
+    clauses: list[Form]
+    result: Form
+
+
+class For(NamedTuple):
+    """A clause `for`."""
+
+    bindings: list[Each]
+
+
+class Each(NamedTuple):
+    """A variable of `for`."""
+
+    name: Name
+    allows_empty: bool
+    position: Name | None
+    range: Form
+
+
+class Let(NamedTuple):
+    """A clause `let`."""
+
+    bindings: list[Binding]
+
+
+class Binding(NamedTuple):
+    """A variable and its value, or none."""
+
+    name: Name
+    value: Form | None
+
+
+class Where(NamedTuple):
+    """A clause `where`."""
+
+    condition: Form
+
+
+class Group(NamedTuple):
+    """A clause `group by`."""
+
+    bindings: list[Binding]
+
+
+class Order(NamedTuple):
+    """A clause `order by`."""
+
+    keys: list[Key]
+
+
+class Count(NamedTuple):
+    """A clause `count`."""
+
+    name: Name
+
+
+class Key(NamedTuple):
+    """A key of an order."""
+
+    part: Form
+    descends: bool
+    is_empty_greatest: bool
+
+
+def symbol(text: str) -> Token:
     return Token("symbol", text)
 
 
-def word(text):
+def word(text: str) -> Token:
     return Token("name", text)
 
 
@@ -103,7 +353,7 @@ RESERVED = frozenset((
     "schema-element", "switch", "text", "typeswitch"))
 
 
-def tree(text):
+def tree(text: str) -> Form:
     """The tree of a query's text; Refused where it is none."""
     reader = Reader(tokens(text))
     form = reader.expression()
@@ -114,35 +364,35 @@ def tree(text):
 class Reader:
     """Reads forms from tokens; each method takes the tokens of what it gives."""
 
-    def __init__(self, given):
+    def __init__(self, given: list[Token]) -> None:
         self.tokens, self.at = given, 0
 
-    def peek(self, ahead=0):
+    def peek(self, ahead: int = 0) -> Token:
         """The next token, or one after it."""
         return self.tokens[min(self.at + ahead, len(self.tokens) - 1)]
 
-    def stands(self, *wanted):
+    def stands(self, *wanted: Token) -> bool:
         """Whether these tokens come next."""
         return all(self.peek(ahead) == token for ahead, token in enumerate(wanted))
 
-    def take(self):
+    def take(self) -> Token:
         token = self.peek()
         self.at += 1
         return token
 
-    def takes(self, *wanted):
+    def takes(self, *wanted: Token) -> bool:
         """Takes these tokens if they come next, and says whether they did."""
         is_next = self.stands(*wanted)
         if is_next:
             self.at += len(wanted)
         return is_next
 
-    def expect(self, *wanted):
+    def expect(self, *wanted: Token) -> None:
         """Takes these tokens, which have to come next."""
         if not self.takes(*wanted):
             raise Refused("XPST0003")
 
-    def parts(self, part, *separators):
+    def parts(self, part: Callable[[], Part], *separators: Token) -> list[Part]:
         """One or more parts, with one of the separators between two."""
         found = [part()]
         while self.peek() in separators:
@@ -150,34 +400,37 @@ class Reader:
             found.append(part())
         return found
 
-    def joined(self, form, part, *separators):
+    def joined(self, form: Callable[[list[Form]], Form], part: Callable[[], Form],
+               *separators: Token) -> Form:
         """Parts as the form; one alone is itself."""
         found = self.parts(part, *separators)
         return form(found) if len(found) > 1 else found[0]
 
-    def chain(self, form, part, operators):
+    def chain(self, form: Callable[[Form, list[tuple[str, Form]]], Form],
+              part: Callable[[], Form], operators: Mapping[Token, str]) -> Form:
         """A first part, and each operator with its right operand."""
-        first, rest = part(), []
+        first = part()
+        rest: list[tuple[str, Form]] = []
         while self.peek() in operators:
             rest.append((operators[self.take()], part()))
         return form(first, rest) if rest else first
 
-    def name(self):
+    def name(self) -> Name:
         token = self.take()
-        if token.kind == "prefixed":
+        if isinstance(token.value, Name):
             return token.value
         if token.kind == "name":
-            return Name(None, token.value)
+            return Name(None, token.text)
         raise Refused("XPST0003")
 
-    def variable(self):
+    def variable(self) -> Name:
         self.expect(DOLLAR)
         return self.name()
 
-    def expression(self):
+    def expression(self) -> Form:
         return self.joined(Sequence, self.single, COMMA)
 
-    def single(self):
+    def single(self) -> Form:
         for first in ("for", "let"):
             if self.stands(word(first), DOLLAR):
                 return self.flwor()
@@ -190,13 +443,13 @@ class Reader:
 
     # FLWOR, quantified and conditional expressions
 
-    def flwor(self):
-        clauses = []
+    def flwor(self) -> Form:
+        clauses: list[Form] = []
         while not self.takes(word("return")):
             clauses.append(self.clause())
         return Flwor(clauses, self.single())
 
-    def clause(self):
+    def clause(self) -> Form:
         if self.stands(word("for"), DOLLAR):
             self.take()
             return For(self.parts(self.each, COMMA))
@@ -215,7 +468,7 @@ class Reader:
         self.expect(word("order"), word("by"))
         return Order(self.parts(self.key, COMMA))
 
-    def each(self):
+    def each(self) -> Each:
         """A variable of `for`, with that of its position."""
         name = self.variable()
         allows_empty = self.takes(word("allowing"), word("empty"))
@@ -223,18 +476,18 @@ class Reader:
         self.expect(word("in"))
         return Each(name, allows_empty, position, self.single())
 
-    def assigned(self):
+    def assigned(self) -> Binding:
         """A variable of `let`."""
         name = self.variable()
         self.expect(symbol(":="))
         return Binding(name, self.single())
 
-    def grouping(self):
+    def grouping(self) -> Binding:
         """A variable of `group by`, with the value that it is bound to, or none."""
         name = self.variable()
         return Binding(name, self.single() if self.takes(symbol(":=")) else None)
 
-    def key(self):
+    def key(self) -> Key:
         """A key of an order, with its modifiers."""
         part = self.single()
         descends = self.takes(word("descending"))
@@ -245,19 +498,19 @@ class Reader:
             self.takes(word("empty"), word("least"))
         return Key(part, descends, is_empty_greatest)
 
-    def ranged(self):
+    def ranged(self) -> Binding:
         """A variable of a quantified expression."""
         name = self.variable()
         self.expect(word("in"))
         return Binding(name, self.single())
 
-    def quantified(self):
-        quantifier = self.take().value
+    def quantified(self) -> Form:
+        quantifier = self.take().text
         bindings = self.parts(self.ranged, COMMA)
         self.expect(word("satisfies"))
         return Quantified(quantifier, bindings, self.single())
 
-    def conditional(self):
+    def conditional(self) -> Form:
         self.expect(word("if"), symbol("("))
         condition = self.expression()
         self.expect(symbol(")"), word("then"))
@@ -267,43 +520,44 @@ class Reader:
 
     # Operators, from loose to tight
 
-    def conjunction(self):
+    def conjunction(self) -> Form:
         return self.joined(And, self.comparison, word("and"))
 
-    def comparison(self):
+    def comparison(self) -> Form:
         left = self.concatenation()
         if self.peek() not in COMPARISONS:
             return left
         kind, relation = COMPARISONS[self.take()]
         return Comparison(left, kind, relation, self.concatenation())
 
-    def concatenation(self):
+    def concatenation(self) -> Form:
         return self.joined(Concat, self.range, symbol("||"))
 
-    def range(self):
+    def range(self) -> Form:
         first = self.sum()
         return Range(first, self.sum()) if self.takes(word("to")) else first
 
-    def sum(self):
+    def sum(self) -> Form:
         return self.chain(Sum, self.product, SIGNS)
 
-    def product(self):
+    def product(self) -> Form:
         return self.chain(Product, self.union, PRODUCTS)
 
-    def union(self):
+    def union(self) -> Form:
         return self.joined(Union, self.set_operation, symbol("|"), word("union"))
 
-    def set_operation(self):
+    def set_operation(self) -> Form:
         return self.chain(SetOperation, self.arrow, SETS)
 
-    def arrow(self):
-        first, calls = self.unary(), []
+    def arrow(self) -> Form:
+        first = self.unary()
+        calls: list[tuple[Name, list[Form]]] = []
         while self.takes(symbol("=>")):
             calls.append(self.called())
         return Arrow(first, calls) if calls else first
 
-    def unary(self):
-        signs = []
+    def unary(self) -> Form:
+        signs: list[str] = []
         while self.peek() in SIGNS:
             signs.append(SIGNS[self.take()])
         part = self.joined(Map, self.path, symbol("!"))
@@ -311,22 +565,23 @@ class Reader:
 
     # Paths
 
-    def path(self):
+    def path(self) -> Form:
         if self.takes(symbol("//")):
             return self.path_from("RootAndBelow")
         if self.takes(symbol("/")):
             return self.path_from("Root") if self.begins_step() else Root()
         return self.path_from("Relative")
 
-    def begins_step(self):
+    def begins_step(self) -> bool:
         kind, value = self.peek()
         if kind == "symbol":
             return value in ("$", "(", ".", "..", "@", "*")
         return kind != "end"
 
-    def path_from(self, start):
+    def path_from(self, start: str) -> Form:
         """Steps; a primary expression alone is itself."""
-        first, rest = self.step(), []
+        first = self.step()
+        rest: list[tuple[str, Form]] = []
         while self.peek() in SEPARATORS:
             rest.append((SEPARATORS[self.take()], self.step()))
         is_alone = start == "Relative" and not rest
@@ -334,7 +589,7 @@ class Reader:
             return first.part
         return Path(start, first, rest)
 
-    def predicates(self):
+    def predicates(self) -> list[Form]:
         """None, one or more."""
         found = []
         while self.takes(symbol("[")):
@@ -342,12 +597,12 @@ class Reader:
             self.expect(symbol("]"))
         return found
 
-    def step(self):
+    def step(self) -> Form:
         if self.takes(symbol("..")):
             return ParentStep(self.predicates())
         if self.takes(symbol("@")):
             return AttributeStep(self.test(), self.predicates())
-        kind, value = self.peek()
+        kind, value = self.peek().kind, self.peek().text
         if kind == "name" and value in AXES and self.peek(1) == symbol("::"):
             self.expect(word(value), symbol("::"))
             return AxisStep(AXES[value], self.test(), self.predicates())
@@ -356,10 +611,10 @@ class Reader:
             return ShortStep(self.test(), self.predicates())
         return PrimaryStep(part, self.predicates())
 
-    def test(self):
+    def test(self) -> Form:
         if self.takes(symbol("*")):
             return KindTest("AnyName")
-        kind, value = self.peek()
+        kind, value = self.peek().kind, self.peek().text
         if kind == "name" and self.peek(1) == symbol("("):
             if value in KINDS:
                 self.expect(word(value), symbol("("), symbol(")"))
@@ -369,7 +624,7 @@ class Reader:
                 return NamedKindTest(NAMED_KINDS[value], self.name_of_kind(value))
         return NameTest(self.name())
 
-    def name_of_kind(self, kind):
+    def name_of_kind(self, kind: str) -> Name | None:
         """The name in a kind test, or none, and the parenthesis after it."""
         if self.takes(symbol(")")):
             return None
@@ -380,27 +635,29 @@ class Reader:
 
     # Primary expressions; none where a step along an axis begins
 
-    def primary(self):
+    def primary(self) -> Form | None:
         kind, value = self.peek()
         match kind:
-            case "integer" | "decimal" | "string":
+            case "integer" | "decimal" if isinstance(value, int):
                 self.take()
-                return {"integer": Integer, "decimal": Decimal, "string": String}[kind](value)
+                return Integer(value) if kind == "integer" else Decimal(value)
+            case "string" if isinstance(value, str):
+                self.take()
+                return String(value)
             case "symbol":
                 return self.primary_of_symbol()
             case "name" | "prefixed":
                 return self.constructor() or self.call()
-            case _:
-                return None
+        return None
 
-    def primary_of_symbol(self):
+    def primary_of_symbol(self) -> Form | None:
         if self.stands(DOLLAR):
             return Variable(self.variable())
         if self.takes(symbol(".")):
             return ContextItem()
         return self.enclosed("(", ")") if self.stands(symbol("(")) else None
 
-    def enclosed(self, left, right):
+    def enclosed(self, left: str, right: str) -> Form:
         """An expression, or nothing, between two symbols."""
         self.expect(symbol(left))
         if self.takes(symbol(right)):
@@ -409,9 +666,9 @@ class Reader:
         self.expect(symbol(right))
         return part
 
-    def constructor(self):
+    def constructor(self) -> Form | None:
         """A node constructor, or none where no such begins."""
-        value, brace = self.peek().value, symbol("{")
+        value, brace = self.peek().text, symbol("{")
         if value in UNNAMED_NODES and self.peek(1) == brace:
             self.take()
             return Unnamed(value, self.enclosed("{", "}"))
@@ -422,13 +679,13 @@ class Reader:
         name = self.name() if is_named else self.computed_name()
         return Named(value, name, self.enclosed("{", "}"))
 
-    def computed_name(self):
+    def computed_name(self) -> Form:
         self.expect(symbol("{"))
         name = self.expression()
         self.expect(symbol("}"))
         return name
 
-    def call(self):
+    def call(self) -> Form | None:
         """A function call, or none where no such begins."""
         kind, value = self.peek()
         is_reserved = kind == "name" and value in RESERVED
@@ -436,7 +693,7 @@ class Reader:
             return None
         return Call(*self.called())
 
-    def called(self):
+    def called(self) -> tuple[Name, list[Form]]:
         """The name of a function and its arguments."""
         if self.peek().kind == "name" and self.peek().value in RESERVED:
             raise Refused("XPST0003")

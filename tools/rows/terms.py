@@ -3,10 +3,17 @@
 A term is a word, a quoted text, an application (a tuple of a word and its arguments) or a list.
 """
 
+from __future__ import annotations
+
 import re
+from collections.abc import Callable, Iterable
+from typing import Any, TypeAlias
 
 from rows import queries as form
 from rows.tokens import Name, Refused
+
+# A word or a quoted text, an application, or a list.
+Term: TypeAlias = "str | tuple[Term, ...] | list[Term]"
 
 PATHS = {"Relative": "path", "Root": "path_from_root", "RootAndBelow": "path_below_root"}
 OPERATORS = {
@@ -21,12 +28,12 @@ MODIFIERS = {(False, False): "ascending", (True, False): "descending",
              (False, True): "empty_greatest", (True, True): "descending_greatest"}
 
 
-def meaning(text):
+def meaning(text: str) -> Term:
     """The term of what the query of this text means; Refused where it is no query."""
     return term(form.tree(text))
 
 
-def written(given, is_argument=False):
+def written(given: Term, is_argument: bool = False) -> str:
     """The text of a term, in parentheses where it stands as an argument and needs them."""
     if isinstance(given, str):
         return given
@@ -36,11 +43,11 @@ def written(given, is_argument=False):
     return f"({text})" if is_argument else text
 
 
-def words(given):
+def words(given: Term) -> set[str]:
     """The words of a term, without its quoted texts; of a list also its constructors."""
     if isinstance(given, str):
         return set() if given.startswith('"') else {given}
-    found = set().union(*map(words, given))
+    found: set[str] = set().union(*map(words, given))
     if isinstance(given, list):
         found.add("[]")
         if given:
@@ -48,48 +55,48 @@ def words(given):
     return found
 
 
-def is_plain(text):
+def is_plain(text: str) -> bool:
     """Whether the characters of a text are its bytes."""
     return all(ord(character) < 127 for character in text)
 
 
-def quoted(text):
+def quoted(text: str) -> str:
     """The text as a literal."""
     escapes = {"\\": "\\\\", '"': '\\"', "\n": "\\n", "\t": "\\t", "\r": "\\r"}
-    return '"%s"' % re.sub(r'[\\"\n\t\r]', lambda match: escapes[match.group()], text)
+    return '"%s"' % re.sub(r'[\\"\n\t\r]', lambda match: escapes[str(match.group())], text)
 
 
-def spelled(name):
+def spelled(name: Name) -> str:
     """The text of a name, which has no prefix."""
     if name.prefix is not None:
         raise Refused("prof:PREFIX")
     return quoted(name.local)
 
 
-def term(given):
+def term(given: form.Form) -> Term:
     """The term of an expression, a clause, a step or a test."""
     return TERMS[type(given)](given)
 
 
-def terms(given):
+def terms(given: Iterable[form.Form]) -> list[Term]:
     return [term(part) for part in given]
 
 
-def chain_of(name):
+def chain_of(name: str) -> Callable[[form.Sum | form.Product | form.SetOperation], Term]:
     """What writes a first operand, and the others with their operators."""
     return lambda it: (name, term(it.first), followers(it.rest))
 
 
-def followers(rest):
+def followers(rest: Iterable[tuple[str, form.Form]]) -> list[Term]:
     """The pairs that follow a first operand or step."""
     return [(OPERATORS[operator], term(part)) for operator, part in rest]
 
 
-def string_term(it):
+def string_term(it: form.String) -> Term:
     return ("txt" if is_plain(it.text) else "txt8", quoted(it.text))
 
 
-def called(word, name, arguments):
+def called(word: str, name: Name, arguments: list[form.Form]) -> Term:
     """What writes a call: one by a prefixed name has a word of its own."""
     prefix, local = name
     if prefix is None:
@@ -97,15 +104,15 @@ def called(word, name, arguments):
     return (f"{word}_by", ("prefixed", quoted(prefix), quoted(local)), terms(arguments))
 
 
-def call_term(it):
+def call_term(it: form.Call) -> Term:
     return called("call", *it)
 
 
-def arrow_term(it):
+def arrow_term(it: form.Arrow) -> Term:
     return ("arrow", term(it.first), [called("onto", *call) for call in it.calls])
 
 
-def named_term(it):
+def named_term(it: form.Named) -> Term:
     """A constructor whose name is written out, or computed."""
     name = NAMED_NODES[it.kind]
     if isinstance(it.name, Name):
@@ -113,61 +120,63 @@ def named_term(it):
     return (f"{name}_by", term(it.name), term(it.content))
 
 
-def primary_step_term(it):
+def primary_step_term(it: form.PrimaryStep) -> Term:
     if it.predicates:
         return ("filtered", term(it.part), terms(it.predicates))
     return ("primary", term(it.part))
 
 
-def step_of(short, long):
+def step_of(short: str, long: str) -> Callable[[form.AttributeStep | form.ShortStep], Term]:
     """What writes a step whose axis is understood: a name alone has a shorter word."""
-    def step_term(it):
+    def step_term(it: form.AttributeStep | form.ShortStep) -> Term:
         if isinstance(it.test, form.NameTest) and not it.predicates:
             return (short, spelled(it.test.name))
         return (long, term(it.test), terms(it.predicates))
     return step_term
 
 
-def named_kind_term(it):
+def named_kind_term(it: form.NamedKindTest) -> Term:
     if it.name is None:
         return (f"written.{it.kind}", "None")
     wrapper = "codes" if it.kind == "ProcessingInstruction" else "bare"
     return (f"written.{it.kind}", ("Some", (wrapper, spelled(it.name))))
 
 
-def for_term(it):
+def for_term(it: form.For) -> Term:
     first = it.bindings[0]
     if len(it.bindings) == 1 and first.position is None and not first.allows_empty:
         return ("for_in", spelled(first.name), term(first.range))
     return ("for_all", terms(it.bindings))
 
 
-def each_term(it):
+def each_term(it: form.Each) -> Term:
     name = "each_or_none" if it.allows_empty else "each"
     if it.position is None:
         return (name, spelled(it.name), term(it.range))
     return (f"{name}_at", spelled(it.name), spelled(it.position), term(it.range))
 
 
-def binding_term(it):
+def binding_term(it: form.Binding) -> tuple[Term, ...]:
     """A variable with its value, or with what it ranges over."""
+    assert it.value is not None, "a variable without a value"
     return ("be", spelled(it.name), term(it.value))
 
 
-def let_term(it):
+def let_term(it: form.Let) -> Term:
     if len(it.bindings) == 1:
         _, *arguments = binding_term(it.bindings[0])
         return ("let_be", *arguments)
     return ("let_all", terms(it.bindings))
 
 
-def grouping_term(it):
+def grouping_term(it: form.Binding) -> Term:
     if it.value is None:
         return ("grouping", spelled(it.name))
     return ("assigned", spelled(it.name), term(it.value))
 
 
-TERMS = {
+# By the class of a form, what writes it. (Each takes a form of its class.)
+TERMS: dict[type, Callable[[Any], Term]] = {
     form.Integer: lambda it: ("num", str(it.value)),
     form.Decimal: lambda it: ("dec", str(it.millionths)),
     form.String: string_term,

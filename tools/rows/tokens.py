@@ -46,13 +46,19 @@ class Token(NamedTuple):
     """
 
     kind: str
-    value: object
+    value: Name | int | str | None
+
+    @property
+    def text(self) -> str:
+        """The value where it is a text; nothing where it is none."""
+        return self.value if isinstance(self.value, str) else ""
 
 
-def tokens(text):
+def tokens(text: str) -> list[Token]:
     """The tokens of a text, and one of the kind end after them."""
     text = text.replace("\r\n", "\n").replace("\r", "\n")
-    found, at = [], 0
+    found: list[Token] = []
+    at = 0
     while at < len(text):
         match = TOKEN.match(text, at)
         if match is None:
@@ -60,12 +66,12 @@ def tokens(text):
         at = match.end()
         if match.lastgroup == "comment":
             at = end_of_comment(text, at)
-        elif match.lastgroup != "blank":
+        elif match.lastgroup and match.lastgroup != "blank":
             found.append(Token(match.lastgroup, value_of(match)))
     return [*found, Token("end", None)]
 
 
-def end_of_comment(text, at):
+def end_of_comment(text: str, at: int) -> int:
     """Where the comment ends that was opened before this place; comments nest."""
     depth = 1
     for mark in re.compile(r"\(:|:\)").finditer(text, at):
@@ -75,7 +81,7 @@ def end_of_comment(text, at):
     raise Refused("XPST0003")
 
 
-def value_of(match):
+def value_of(match: re.Match[str]) -> Name | int | str:
     """The value of the token that was matched."""
     text = match.group()
     match match.lastgroup:
@@ -89,7 +95,7 @@ def value_of(match):
             return text
 
 
-def number(digits, text, end):
+def number(digits: str, text: str, end: int) -> int:
     """The value of a numeric literal that ends there in the text: of a decimal its millionths."""
     if EXPONENT.match(text, end):
         raise Refused("prof:DOUBLE")
@@ -105,13 +111,13 @@ def number(digits, text, end):
     return value
 
 
-def string(literal):
+def string(literal: str) -> str:
     """The value of a string literal: its quote is doubled, and references stand for characters."""
     quote = literal[0]
     return REFERENCE.sub(referenced, literal[1:-1].replace(quote * 2, quote))
 
 
-def referenced(match):
+def referenced(match: re.Match[str]) -> str:
     """The character that a reference stands for."""
     reference = match.group(1)
     if reference is None:
