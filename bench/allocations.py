@@ -58,7 +58,7 @@ def main() -> None:
     words = argparse.ArgumentParser(description=__doc__.partition("\n")[0])
     words.add_argument("--server", default="", help="the server; the built one else")
     given = words.parse_args()
-    command = shlex.split(given.server) or [built()]
+    command = shlex.split(given.server) or [str(built())]
     found = of_queries(command, document(ELEMENTS), [query for _, query in QUERIES])
     for (name, _), count in zip(QUERIES, found):
         print(f"{name:20} {count:9,}")

@@ -59,7 +59,8 @@ def measure(program: str) -> None:
             rows, length, times = least(turns)
             ratios = " ".join("%5.1f" % (now / then) for now, then in zip(times, before))
             print("%-11s %8d %8d %9.1f %9.1f %9.1f %9.1f   %s"
-                  % (kind, size, rows, *times, length / times[2] / 1000, ratios), flush=True)
+                  % (kind, size, rows, times[0], times[1], times[2], length / times[2] / 1000,
+                     ratios), flush=True)
             before = times
 
 

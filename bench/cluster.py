@@ -123,7 +123,7 @@ class Bench:
 
     def measure_reads(self) -> None:
         """The `order by` at one node, at three, and at one of three servers."""
-        groups = [self.filled(*it) for it in ((1,), (3,), (1, "--servers", "3"))]
+        groups = [self.filled(1), self.filled(3), self.filled(1, "--servers", "3")]
         rows = [[reads([it.place for it in group], self.given.seconds * 2) for group in groups]
                 for _ in range(self.given.runs)]
         one, three, servers = (statistics.median(column) for column in zip(*rows, strict=True))

@@ -63,7 +63,8 @@ def main() -> None:
             sys.exit("the document did not come back as it was stored")
         times = ((stored - empty) * 1000, (both - stored) * 1000 / READS)
         ratios = ["%8.2f" % (now / then) for now, then in zip(times, before)] or ["", ""]
-        print("%10d %8d %12.1f %12.1f %8s %8s" % (len(text), nodes, *times, *ratios))
+        print("%10d %8d %12.1f %12.1f %8s %8s" % (
+            len(text), nodes, times[0], times[1], ratios[0], ratios[1]))
         before = times
 
 

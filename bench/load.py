@@ -284,7 +284,7 @@ def main() -> int:
     words.add_argument("--rounds", type=int, default=3)
     words.add_argument("what", nargs="*", metavar="literals|edits")
     given = words.parse_args()
-    servers: dict[str, Command] = {OURS: shlex.split(given.server) or [built()]}
+    servers: dict[str, Command] = {OURS: shlex.split(given.server) or [str(built())]}
     if given.base:
         servers[BASE] = shlex.split(given.base)
     kept = True

@@ -13,6 +13,7 @@ judged; where one doesn't hold, the exit status is 1.
 from __future__ import annotations
 
 import argparse
+import functools
 import pathlib
 import statistics
 import sys
@@ -80,7 +81,7 @@ def filled(server: Server, count: int) -> list[float]:
     def batch(first: int) -> None:
         for number in range(first, first + BATCH):
             put(server, f"d{number:05}", document(number))
-    return [seconds(lambda first=first: batch(first)) for first in range(0, count, BATCH)]
+    return [seconds(functools.partial(batch, first)) for first in range(0, count, BATCH)]
 
 
 def medians(server: Server, query: str, changed: str) -> tuple[float, float, float]:
@@ -91,7 +92,8 @@ def medians(server: Server, query: str, changed: str) -> tuple[float, float, flo
         alone.append(seconds(lambda: ask(server, query)))
         stores.append(seconds(lambda: put(server, changed, document(turn))))
         after.append(seconds(lambda: ask(server, query)))
-    return tuple(statistics.median(them) * 1e3 for them in (alone, after, stores))
+    whole, beside, stored = (statistics.median(them) * 1e3 for them in (alone, after, stores))
+    return whole, beside, stored
 
 
 def show_stores(name: str, batches: Sequence[float], faults: Faults) -> None:
@@ -162,7 +164,8 @@ def main() -> int:
     faults = Faults()
     with tempfile.TemporaryDirectory() as room:
         folder = pathlib.Path(room)
-        for name, extra in (("memory", []), ("file", ["--file", folder / "many.db"])):
+        options: dict[str, list[str]] = {"memory": [], "file": ["--file", f"{folder}/many.db"]}
+        for name, extra in options.items():
             server = Server([*program, *extra])
             show_stores(name, filled(server, given.documents), faults)
             show_queries(name, server, given.documents, faults)

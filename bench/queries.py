@@ -274,7 +274,7 @@ def main() -> int:
     words.add_argument("--engines", action="store_true", help="times of other engines beside")
     words.add_argument("--base", default="", help="the command of an older server, beside")
     given = words.parse_args()
-    command = shlex.split(given.server) if given.server else [built()]
+    command = shlex.split(given.server) if given.server else [str(built())]
     if given.engines or given.base:
         base: dict[str, Command] = {BASE: shlex.split(given.base)} if given.base else {}
         return 0 if compare({OURS: command, **base}, given.engines) else 1

@@ -14,7 +14,7 @@ from unittest import mock
 
 import engines
 import queries
-from bounds import Times
+from bounds import Bound, Times
 from engines import Peer, Spent
 
 ABSENT = Peer("Absent", "no-such-package", "no-such-*.jar", "AbsentPeer")
@@ -99,7 +99,7 @@ class Judged(unittest.TestCase):
     TIMES = {query: {"xqs": Times(10.0, 9.0), "Saxon": Times(20.0, 18.0), "BaseX": Times(8.0, 8.0)}
              for query, _ in queries.QUERIES}
 
-    def ours(self, times: dict[str, float]) -> list[queries.Bound]:
+    def ours(self, times: dict[str, float]) -> list[Bound]:
         """The bounds of all queries, of which those named take so long, and others 3.2."""
         return queries.beside_engines(
             {query: {**of, "xqs": Times(times.get(query, 3.2), 3.2)}

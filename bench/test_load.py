@@ -14,6 +14,7 @@ from unittest import mock
 import load
 import shapes
 from bounds import Times
+from engines import Driven, Spent
 from shapes import Row
 
 PRINTED = ('document {element lib {element book {attribute id {"1"}, text {"A"}}, '
@@ -105,9 +106,9 @@ class Bounds(unittest.TestCase):
         self.assertIn('element year {"2000"}', texts[0])
 
     def test_the_first_edit_is_judged_and_shown_by_itself_besides(self) -> None:
-        engine = mock.Mock(spec=load.Driven)
+        engine = mock.Mock(spec=Driven)
         engine.name = "xqs"
-        engine.run.return_value = [load.Spent(2.0, 0.0, 1.0)]
+        engine.run.return_value = [Spent(2.0, 0.0, 1.0)]
         found = load.Found()
         for what, query, is_stored in load.steps(0):
             load.step(found, what, engine, query, is_stored)

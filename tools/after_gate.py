@@ -39,7 +39,7 @@ PROGRAMS = {
     "test_page": ("chromium",), "test_page_tools": ("chromium",), "test_page_values": ("chromium",),
     "test_xml_files": ("xmllint",),
 }
-GROWTHS = {
+GROWTHS: dict[str, list[str]] = {
     "growths": [], "growths_file": ["--file"],
     "growths_atoms": ["--table", "atoms.toml"], "growths_grammar": ["--table", "grammar.toml"],
     "growths_joins": ["--table", "joins.toml"], "growths_queries": ["--table", "queries.toml"],

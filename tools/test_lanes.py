@@ -95,7 +95,7 @@ class Pool(unittest.TestCase):
     def test_a_fault_is_handed_on_and_holds_up_nothing(self) -> None:
         with lanes.Lanes(2, {}) as pool:
             first = pool.submit(lambda crate: 1 // 0, House("ground"))
-            second = pool.submit(lambda crate: crate.name, House("hall"))
+            second = pool.submit(lambda crate: str(crate.name), House("hall"))
         self.assertIsInstance(first.exception(), ZeroDivisionError)
         self.assertEqual(second.result(), "hall")
 

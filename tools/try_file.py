@@ -75,7 +75,7 @@ def refuses(what: str, program: pathlib.Path, path: pathlib.Path, user: str | No
         folder = path if path.is_dir() else path.parent
         return sorted(os.listdir(folder)) if folder.is_dir() else None
     before, files = content(), beside()
-    check(what, Server([program, "--file", path], **how).end(), REFUSED)
+    check(what, Server([program, "--file", path], user=user).end(), REFUSED)
     check("  its bytes stay", content() == before, True)
     check("  nothing is left beside it", beside(), files)
 
