@@ -23,7 +23,7 @@ from dataclasses import dataclass
 TOP = pathlib.Path(__file__).resolve().parent.parent
 sys.path.insert(0, str(TOP / "tools"))
 from harness import LIBRARY, Server, built, frame, store
-import workspace  # sets the allocator as ./serve does
+import workspace  # noqa: F401  (sets the allocator as ./serve does)
 
 STACK = 8 << 20
 ONE_LOOP = "for $x in 1 return "

@@ -52,7 +52,7 @@ LAST_LINES = 60
 
 @dataclass(frozen=True)
 class Given:
-    """What the command line gives: the server's words, a clone with a gate, the corpus, a length."""
+    """What the command line gives: the server's words, a gate's clone, the corpus, a length."""
 
     server: list[str]
     gate: str | None

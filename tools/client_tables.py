@@ -28,7 +28,8 @@ TERMINALS = {
 """Lines of the grammar that stand for one token, by what the client calls it."""
 RENAMED = {
     "Whole": "Expr", "Any": "ExprSingle", "Single": "ExprSingle", "QN": "Name",
-    "Quant": "Quantified", "QB": "QuantifiedBinding", "LetB": "LetBinding", "ForB": "ForBinding", "GroupS": "GroupSpec",
+    "Quant": "Quantified", "QB": "QuantifiedBinding", "LetB": "LetBinding", "ForB": "ForBinding",
+    "GroupS": "GroupSpec",
     "OrderS": "OrderSpec", "Comp": "Comparison", "Prod": "Product", "Inter": "Intersection",
     "StepRel": "Step", "AxisStepRel": "AxisStep", "ClauseRel": "Clause", "Make": "Constructor",
 }
@@ -221,7 +222,8 @@ NO_CALLS = frozenset((
 GRAMMAR = r"""
 {table}
 """
-"""The grammar, one production a line, which may go on with an indent; docs/LANGUAGE.md says what its tokens are."""
+"""The grammar, one production a line, which may go on with an indent; \
+docs/LANGUAGE.md says what its tokens are."""
 '''
 
 

@@ -11,7 +11,8 @@ after the last look; the line `unseen` has that difference.
 
 With --here the gate runs in this folder, and the dearest parts go to FILE. Where N minutes by the
 clock do not suffice, the gate is ended, and status 1 says so by name: as soon as the measured proof
-of the yardstick's crate tells that the whole gate takes far longer, or else at the end of N minutes.
+of the yardstick's crate tells that the whole gate takes far longer, or else at the end of N
+minutes.
 """
 
 from __future__ import annotations

@@ -16,10 +16,13 @@ import sys
 import tempfile
 import threading
 import time
+from typing import TypeAlias
 
 sys.path.insert(0, os.path.dirname(os.path.abspath(__file__)))
 from harness import LIBRARY, Server, built, store
 
+# By address, the text of each document.
+Documents: TypeAlias = dict[bytes, bytes]
 ADDRESSES = [b"a", b"b", b"c/d"]
 LATEST_KILL = 0.2
 
@@ -34,7 +37,7 @@ def document(chance: random.Random) -> bytes:
     return b"document {element rows {" + rows + b"}}"
 
 
-def held(server: Server) -> dict[bytes, bytes] | None:
+def held(server: Server) -> Documents | None:
     """All documents by address, or None where the server ends before it has told them."""
     found = {}
     for address in ADDRESSES:
@@ -47,7 +50,7 @@ def held(server: Server) -> dict[bytes, bytes] | None:
 
 
 def request(chance: random.Random,
-            documents: dict[bytes, bytes]) -> tuple[tuple[bytes, bytes], dict[bytes, bytes]]:
+            documents: Documents) -> tuple[tuple[bytes, bytes], Documents]:
     """A random request, and the documents after it."""
     address = chance.choice(ADDRESSES)
     if chance.random() < 0.25:
@@ -57,7 +60,7 @@ def request(chance: random.Random,
 
 
 def send_until_killed(server: Server, chance: random.Random,
-                      documents: dict[bytes, bytes]) -> tuple[dict[bytes, bytes], dict[bytes, bytes]]:
+                      documents: Documents) -> tuple[Documents, Documents]:
     """Sends requests, each after the reply to the one before, and gives the documents before and
     after the one under way."""
     while True:
@@ -69,7 +72,7 @@ def send_until_killed(server: Server, chance: random.Random,
             documents = after
 
 
-def judge(found: dict[bytes, bytes], before: dict[bytes, bytes], after: dict[bytes, bytes]) -> str:
+def judge(found: Documents, before: Documents, after: Documents) -> str:
     """What the documents found are."""
     if found == before:
         return "before"
@@ -84,8 +87,8 @@ def main() -> int:
         ("opens", "before", "after", "neither", "refused", "killed before the first frame"), 0)
     with tempfile.TemporaryDirectory() as folder:
         command = [program, "--file", pathlib.Path(folder) / "x.db"]
-        before: dict[bytes, bytes] = {}
-        after: dict[bytes, bytes] = {}
+        before: Documents = {}
+        after: Documents = {}
         rounds = 0
         while rounds <= times:
             server = Server(command)

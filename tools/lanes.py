@@ -56,7 +56,7 @@ def program_chains(minutes: Mapping[str, float]) -> dict[str, float]:
 
 
 class Lanes(concurrent.futures.Executor):
-    """A pool for the work on crates. In a plain pool a crate that waits for another holds a lane."""
+    """A pool for the work on crates. In a plain pool a crate that waits for another holds one."""
 
     def __init__(self, at_once: int, chain: Mapping[str, float]) -> None:
         """Uses so many processors; of the crates that can begin the longest chain goes first."""

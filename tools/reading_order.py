@@ -226,7 +226,8 @@ def lines_by_crate(files: Mapping[str, File],
         lines = sum(len(files[module].definitions[it]) for it in files[module].definitions
                     if (module, it) in done)
         if lines and ".specs.private." not in module:
-            found[module.split(".")[1]].append((module.split(".specs.")[1].replace(".", "/"), lines))
+            name = module.split(".specs.")[1].replace(".", "/")
+            found[module.split(".")[1]].append((name, lines))
     return {crate: parts for crate, parts in found.items() if parts}
 
 

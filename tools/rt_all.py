@@ -41,7 +41,7 @@ def loaded(script: pathlib.Path) -> types.ModuleType:
 
 
 def use_lanes(library: types.ModuleType) -> None:
-    """Has the kit's library work on crates in lanes, and build each with its share of processors."""
+    """Has the kit's library work on crates in lanes, and build each with its processors."""
     chain = lanes.program_chains(progress.expected_minutes(MINUTES))
     build, pools = library.Crate.build_rlib, []
 

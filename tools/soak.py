@@ -215,7 +215,8 @@ class OnFile:
                     self.tally.before += place == 0
                     self.tally.after += place > 0
                 return documents
-        raise Wrong(f"the file has {sorted(found)}, and may have {[sorted(it) for it in self.may_be]}")
+        allowed = [sorted(it) for it in self.may_be]
+        raise Wrong(f"the file has {sorted(found)}, and may have {allowed}")
 
     def served(self, server: Server, is_killed: bool) -> bool:
         """Serves until the server is killed, or for a turn; whether it is there still."""

@@ -346,7 +346,7 @@ def main() -> int:
         reads_with_sqlite(path)
         (folder / "empty.db").touch()
         check("an empty file holds nothing",
-          Server([program, "--file", folder / "empty.db"]).ask(b"L"), (0, b"()"))
+              Server([program, "--file", folder / "empty.db"]).ask(b"L"), (0, b"()"))
         bad_files(program, folder, path)
         carried_over(program, folder)
         other_orders(program, folder)

@@ -58,9 +58,10 @@ def put_single() -> None:
 
 put("a", 100)
 put("z", 100)
-calls: tuple[tuple[str, Callable[[], object]], ...] = (("put", lambda: put("m", rows)), ("load", load), ("first", lambda: put("first", 1)),
-         ("single", put_single), ("replace", lambda: put("m", rows)),
-         ("drop", lambda: base.execute(DELETE, ("m",))))
+calls: tuple[tuple[str, Callable[[], object]], ...] = (
+    ("put", lambda: put("m", rows)), ("load", load), ("first", lambda: put("first", 1)),
+    ("single", put_single), ("replace", lambda: put("m", rows)),
+    ("drop", lambda: base.execute(DELETE, ("m",))))
 for name, call in calls:
     start = time.perf_counter()
     call()

@@ -61,6 +61,6 @@ def run(given: argparse.Namespace) -> int:
             count += 1
             again = empty.ask(b"Q", text)
             if again != (0, text):
-                sys.exit("%s\nanswers %s\nwhich reads back as %s" % (query, repr(text[:400]), again))
+                sys.exit("%s\nanswers %r\nwhich reads back as %s" % (query, text[:400], again))
     print("%d replies give themselves; %d are longer than a frame" % (count, long))
     return 0
