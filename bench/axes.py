@@ -33,7 +33,7 @@ sys.path.insert(0, os.path.join(TOP, "tools"))
 from workspace import bench_program
 
 USES = (
-    "xq_atoms", "xq_regions", "xq_sources", "xq_memory_disk", "xq_rows", "xq_expressions",
+    "xq_atoms", "xq_trees", "xq_sources", "xq_memory_disk", "xq_store", "xq_expressions",
     "xq_meaning", "xq_axes", "sqlite", "anyhow",
 )
 SIZES = (10_000, 100_000)

@@ -18,7 +18,7 @@ sys.path.insert(0, os.path.join(TOP, "tools"))
 from workspace import bench_program
 
 USES = (
-    "xq_atoms", "xq_expressions", "xq_regions", "xq_sources", "xq_meaning", "xq_build",
+    "xq_atoms", "xq_expressions", "xq_trees", "xq_sources", "xq_meaning", "xq_build",
     "sqlite_items", "indexmap",
 )
 RUNS = 15

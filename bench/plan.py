@@ -19,7 +19,7 @@ from doublings import measure, of_length
 from workspace import bench_program
 
 USES = (
-    "xq_atoms", "xq_lexer", "xq_expressions", "xq_parser", "xq_regions", "xq_sources",
+    "xq_atoms", "xq_lexer", "xq_expressions", "xq_parser", "xq_trees", "xq_sources",
     "xq_meaning", "xq_normal", "xq_plan", "sqlite_items", "indexmap",
 )
 MEGABYTE = 1_000_000

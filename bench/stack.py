@@ -20,7 +20,7 @@ sys.path.insert(0, os.path.join(TOP, "tools"))
 from workspace import bench_program
 
 USES = (
-    "xq_atoms", "xq_eval", "xq_expressions", "xq_meaning", "xq_queries", "xq_regions",
+    "xq_atoms", "xq_eval", "xq_expressions", "xq_meaning", "xq_queries", "xq_trees",
     "xq_sources", "sqlite_items",
 )
 # Kilobytes between two sizes of stack that are tried, and the most that is.

@@ -14,7 +14,7 @@ work=$(mktemp -d)
 trap 'rm -rf "$work"' EXIT
 cc -shared -fPIC -O1 -o "$work/refuse.so" "$top/tools/refuse.c" -ldl
 
-crate=${1:-xq_rows_tests}
+crate=${1:-xq_store_tests}
 [ $# -gt 1 ] && shift || set -- tests::each_allocation_in_memory
 cd "$top/crates/$crate"
 program=out/${crate}_tests

@@ -17,7 +17,7 @@ import tempfile
 sys.path.insert(0, os.path.dirname(os.path.abspath(__file__)))
 from workspace import begin, crates_below
 
-USES = ("xq_atoms", "xq_regions", "xq_rows")
+USES = ("xq_atoms", "xq_trees", "xq_store")
 PROGRAM = """\
 //! What a program may do with a store and its view.
 #![tactic(auto)]
@@ -26,11 +26,11 @@ use std::alloc::Global;
 use std::io;
 use std::marker::Brand;
 use xq_atoms::Want;
-use xq_regions::{Fragment, Kind, NodeRow};
-use xq_rows::Store;
+use xq_trees::{RowTree, Kind, NodeRow};
+use xq_store::Store;
 
 /// A document without children.
-fn document(alloc: Global) -> Result<Fragment, Want> {
+fn document(alloc: Global) -> Result<RowTree, Want> {
     let mut rows = Vec::new(alloc);
     rows.push(NodeRow {
         pre: 0,
@@ -40,7 +40,7 @@ fn document(alloc: Global) -> Result<Fragment, Want> {
         name: String::new(alloc),
         value: String::new(alloc),
     })?;
-    Fragment::from_rows(rows).map_err(|_| Want::Store)
+    RowTree::from_rows(rows).map_err(|_| Want::Store)
 }
 
 /// How many addresses a view has.

@@ -10,7 +10,7 @@ here=$(cd "$(dirname "$0")" && pwd)
 top=$(cd "${2:-$here/../..}" && pwd)
 work=$1
 mkdir -p "$work/crates/bench/src"
-for name in xq_atoms xq_regions xq_sources xq_memory_disk xq_rows; do
+for name in xq_atoms xq_trees xq_sources xq_memory_disk xq_store; do
     mkdir -p "$work/crates/$name"
     for part in src specs proofs out; do
         rm -rf "${work:?}/crates/$name/$part"
@@ -20,7 +20,7 @@ for name in xq_atoms xq_regions xq_sources xq_memory_disk xq_rows; do
     done
     grep "^$name:" "$top/crates.txt"
 done > "$work/crates.txt"
-echo "bench: xq_atoms xq_regions xq_rows sqlite" >> "$work/crates.txt"
+echo "bench: xq_atoms xq_trees xq_store sqlite" >> "$work/crates.txt"
 cp "$here/main.rattle" "$work/crates/bench/src/main.rt"
 cd "$work/crates/bench"
 ${RT:-rt} run -- memory 10 > "$work/build.log" 2>&1 || { tail -20 "$work/build.log" >&2; exit 1; }

@@ -24,7 +24,7 @@ from rows.terms import meaning
 from rows.tokens import Refused
 from workspace import begin
 
-CRATES = ("xq_atoms", "xq_expressions", "xq_regions", "xq_meaning")
+CRATES = ("xq_atoms", "xq_expressions", "xq_trees", "xq_meaning")
 CRATE = "xq_corpus"
 ROWS_A_FILE = 10
 BEFORE_EVALUATION = ("XPST0003", "XPST0008", "XPST0017", "XQST0089", "XQST0090", "XQST0094")

@@ -12,11 +12,11 @@ HEAD = """\
 -- The documents of a set, and what a query is answered over them.
 use Prim.Native.String.{String}
 use Rattle.std.specs.Prelude.{[], ◌∷◌, codes}
-use Rattle.xq_regions.specs.declared.Kind.TheVariants as kind
+use Rattle.xq_trees.specs.declared.Kind.TheVariants as kind
 use Rattle.xq_atoms.specs.Judged.{Judged}
 use Rattle.xq_atoms.specs.Text.{Text}
-use Rattle.xq_regions.specs.Forest.{end, node}
-use Rattle.xq_regions.specs.Tree.{Tree}
+use Rattle.xq_trees.specs.Forest.{end, node}
+use Rattle.xq_trees.specs.Tree.{Tree}
 use Rattle.xq_meaning.specs.Content.{label}
 use Rattle.xq_meaning.specs.Meaning.{Meaning, first_frame}
 use Rattle.xq_meaning.proofs.Writing.{utf8}

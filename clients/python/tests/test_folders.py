@@ -107,7 +107,7 @@ class Commands(CommandTest):
                          "document {element a {}, element b {}}\n")
 
     def test_nothing_is_exported_into_the_folders_of_a_build(self) -> None:
-        for folder in (TOP / "out", TOP / "out" / "xqs-test", TOP / "crates" / "xq_rows" / "out"):
+        for folder in (TOP / "out", TOP / "out" / "xqs-test", TOP / "crates" / "xq_store" / "out"):
             was_there = folder.exists()
             status, _, said = self.run_command("export", folder)
             self.assertEqual((status, folder.exists()), (1, was_there))

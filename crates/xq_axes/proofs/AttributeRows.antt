@@ -4,15 +4,15 @@ use Rattle.std.specs.Prelude.{IsTrue}
 use Rattle.std.proofs.lemmas.Bool.{cases_lt, cases_order, and_parts}
 use Rattle.std.proofs.Math.ListN.{get_or-append}
 use Rattle.std.proofs.lemmas.List.{get_or-append-add}
-use Rattle.xq_regions.specs.declared.Kind.{Kind}
-use Rattle.xq_regions.specs.declared.Kind.TheVariants.{Document, Element, Attribute, Text, Comment, ProcessingInstruction}
-use Rattle.xq_regions.specs.Forest.{Forest, end, node, count, labels, tops, EachNode}
-use Rattle.xq_regions.specs.Tree.{Label, Tree, IsTree, nodes, is_attribute, is_content, may_follow, may_stand, are_attributes_first}
-use Rattle.xq_regions.specs.Rows.{Row, rows, row_at, no_row, measured}
-use Rattle.xq_regions.specs.RegionTests.{plain_row}
-use Rattle.xq_regions.specs.Nesting.{count-measured}
-use Rattle.xq_regions.proofs.AttributeRuns.{content_in_front}
-use Rattle.xq_regions.proofs.Regions.{length-labels}
+use Rattle.xq_trees.specs.declared.Kind.{Kind}
+use Rattle.xq_trees.specs.declared.Kind.TheVariants.{Document, Element, Attribute, Text, Comment, ProcessingInstruction}
+use Rattle.xq_trees.specs.Forest.{Forest, end, node, count, labels, tops, EachNode}
+use Rattle.xq_trees.specs.Tree.{Label, Tree, IsTree, nodes, is_attribute, is_content, may_follow, may_stand, are_attributes_first}
+use Rattle.xq_trees.specs.Rows.{Row, rows, row_at, no_row, measured}
+use Rattle.xq_trees.specs.RegionTests.{plain_row}
+use Rattle.xq_trees.specs.Nesting.{count-measured}
+use Rattle.xq_trees.proofs.AttributeRuns.{content_in_front}
+use Rattle.xq_trees.proofs.Regions.{length-labels}
 use Rattle.xq_axes.specs.private.Downward.{level_of}
 use Rattle.xq_axes.specs.private.Waiting.{IsParent}
 use Rattle.xq_axes.proofs.Siblings.{clear_parent}

@@ -5,16 +5,16 @@ use Rattle.std.specs.Prelude.{filter}
 use Rattle.std.specs.List.{list_any, AllByRecursion}
 use Rattle.std.proofs.lemmas.Bool.{or_cases, or_left, or_right, and_from, and_parts, eq-eqb, eqb-true}
 use Rattle.std.proofs.lemmas.List.Folds.{list_any-append}
-use Rattle.xq_regions.specs.declared.Axis.{Axis}
-use Rattle.xq_regions.specs.declared.Axis.TheVariants as axis
-use Rattle.xq_regions.specs.Axis.{IsOnAxis}
-use Rattle.xq_regions.specs.AxisTests.{on_axis, is_same}
-use Rattle.xq_regions.specs.Forest.{Forest, end, node}
-use Rattle.xq_regions.specs.Node.{HasPath}
-use Rattle.xq_regions.specs.Order.{step_down, step_right}
-use Rattle.xq_regions.specs.Tree.{Tree, nodes}
-use Rattle.xq_regions.proofs.AxisTable.{on_axis_is}
-use Rattle.xq_regions.proofs.Paths.{down, right}
+use Rattle.xq_trees.specs.declared.Axis.{Axis}
+use Rattle.xq_trees.specs.declared.Axis.TheVariants as axis
+use Rattle.xq_trees.specs.Axis.{IsOnAxis}
+use Rattle.xq_trees.specs.AxisTests.{on_axis, is_same}
+use Rattle.xq_trees.specs.Forest.{Forest, end, node}
+use Rattle.xq_trees.specs.Node.{HasPath}
+use Rattle.xq_trees.specs.Order.{step_down, step_right}
+use Rattle.xq_trees.specs.Tree.{Tree, nodes}
+use Rattle.xq_trees.proofs.AxisTable.{on_axis_is}
+use Rattle.xq_trees.proofs.Paths.{down, right}
 use Rattle.xq_sources.specs.Sources.{tree_at}
 use Rattle.xq_meaning.specs.declared.node_tests.Test.{Test}
 use Rattle.xq_meaning.specs.Items.{Place, place, paths, nodes_at, places_from, same_node, is_among}

@@ -2,15 +2,15 @@
 use Rattle.std.proofs.Common.{◌≡◌, ℕ, zero, suc, ◌+◌, ◌≤◌, List, [], ◌∷◌, ◌++◌, length, take, drop, refl, sym, ◌∙◌, ap, arith, append_assoc}
 use Rattle.std.specs.List.{flat_map}
 use Rattle.std.proofs.lemmas.List.{take-append-le, take_at}
-use Rattle.xq_regions.specs.Forest.{Forest, end, node, count, labels}
-use Rattle.xq_regions.specs.Tree.{Label}
-use Rattle.xq_regions.specs.Node.{HasPath, below_at}
-use Rattle.xq_regions.specs.Order.{place_of}
-use Rattle.xq_regions.specs.Rows.{measured}
-use Rattle.xq_regions.specs.Nesting.{count-measured}
-use Rattle.xq_regions.specs.Value.{text_of, texts}
-use Rattle.xq_regions.proofs.Paths.{within}
-use Rattle.xq_regions.proofs.Regions.{length-labels}
+use Rattle.xq_trees.specs.Forest.{Forest, end, node, count, labels}
+use Rattle.xq_trees.specs.Tree.{Label}
+use Rattle.xq_trees.specs.Node.{HasPath, below_at}
+use Rattle.xq_trees.specs.Order.{place_of}
+use Rattle.xq_trees.specs.Rows.{measured}
+use Rattle.xq_trees.specs.Nesting.{count-measured}
+use Rattle.xq_trees.specs.Value.{text_of, texts}
+use Rattle.xq_trees.proofs.Paths.{within}
+use Rattle.xq_trees.proofs.Regions.{length-labels}
 use Rattle.xq_axes.specs.Reads.{joined_texts}
 
 part-right : {A : Type 0} (xs ys : List A) (c n m i j : ℕ) → length xs ≡ c → n ≡ c + i → m ≡ c + j → drop n (take m (xs ++ ys)) ≡ drop i (take j ys)

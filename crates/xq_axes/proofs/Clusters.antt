@@ -4,11 +4,11 @@ use Rattle.std.specs.List.{list_any}
 use Rattle.std.proofs.lemmas.List.{length-set}
 use Rattle.std.proofs.lemmas.Bool.{cases_lt, cases_eq, cases_Bool, eqb-true, eq-eqb, and_from, and_parts, le-leb, leb-true}
 use Rattle.std.proofs.Math.Bool.{and-false}
-use Rattle.xq_regions.specs.Forest.{count}
-use Rattle.xq_regions.specs.Tree.{Tree, IsTree, nodes}
-use Rattle.xq_regions.specs.Rows.{Row, rows, row_at}
-use Rattle.xq_regions.specs.Regions.{IsInside}
-use Rattle.xq_regions.specs.RegionTests.{inside, plain_row, one_below, in_region}
+use Rattle.xq_trees.specs.Forest.{count}
+use Rattle.xq_trees.specs.Tree.{Tree, IsTree, nodes}
+use Rattle.xq_trees.specs.Rows.{Row, rows, row_at}
+use Rattle.xq_trees.specs.Regions.{IsInside}
+use Rattle.xq_trees.specs.RegionTests.{inside, plain_row, one_below, in_region}
 use Rattle.xq_axes.specs.Reads.{Span}
 use Rattle.xq_axes.specs.private.Hits.{is_among, is_hit, IsReached}
 use Rattle.xq_axes.specs.private.Downward.{axis_of, is_chosen, is_child, level_of, AreMarked, IsOpen, IsMet, IsKnown, IsJudged}
@@ -16,7 +16,7 @@ use Rattle.xq_axes.specs.declared.downward.Downward.{Downward}
 use Rattle.xq_axes.specs.declared.downward.Downward.TheVariants.{Child, Attribute, Descendant, DescendantOrSelf}
 use Rattle.xq_axes.specs.private.Waiting.{IsParent}
 use Rattle.xq_axes.proofs.Lists.{any_from, any_at, any_agree, any_and, any_or, among_at, among_index}
-use Rattle.xq_regions.proofs.Lists.{same_test}
+use Rattle.xq_trees.proofs.Lists.{same_test}
 use Rattle.xq_axes.proofs.Trees.{HasParent, inside_deeper, between_deeper, parent_of, one_parent}
 use Rattle.xq_axes.proofs.AttributeRows.{attribute_run}
 

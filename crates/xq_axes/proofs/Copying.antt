@@ -3,17 +3,17 @@ use Rattle.std.proofs.Common.{◌≡◌, ℕ, suc, ◌+◌, ◌-◌, ◌<◌, �
 use Rattle.std.proofs.Math.Seq.{drop-cons}
 use Rattle.std.proofs.lemmas.List.{append-nil, map-append, map_push, length-take, length-drop, get_or-take}
 use Rattle.xq_sources.specs.declared.lent.LentRow.{LentRow}
-use Rattle.xq_regions.specs.Forest.{Forest, end, node, count, labels}
-use Rattle.xq_regions.specs.Tree.{Label, Tree, nodes}
-use Rattle.xq_regions.specs.Node.{below_at, subtree}
-use Rattle.xq_regions.specs.Order.{path_at}
-use Rattle.xq_regions.specs.Rows.{Row, no_row, row_at, rows, measured}
-use Rattle.xq_regions.specs.Levels.{flat, sized}
-use Rattle.xq_regions.proofs.Injective.{rows-injective}
-use Rattle.xq_regions.proofs.Encoding.{length-rows}
-use Rattle.xq_regions.proofs.Printed.{flat-measured}
-use Rattle.xq_regions.proofs.Sized.{sized-tree}
-use Rattle.xq_packed_trees.specs.PackedTrees.{AreLevels}
+use Rattle.xq_trees.specs.Forest.{Forest, end, node, count, labels}
+use Rattle.xq_trees.specs.Tree.{Label, Tree, nodes}
+use Rattle.xq_trees.specs.Node.{below_at, subtree}
+use Rattle.xq_trees.specs.Order.{path_at}
+use Rattle.xq_trees.specs.Rows.{Row, no_row, row_at, rows, measured}
+use Rattle.xq_trees.specs.Levels.{flat, sized}
+use Rattle.xq_trees.proofs.Injective.{rows-injective}
+use Rattle.xq_trees.proofs.Encoding.{length-rows}
+use Rattle.xq_trees.proofs.Printed.{flat-measured}
+use Rattle.xq_trees.proofs.Sized.{sized-tree}
+use Rattle.xq_packed.specs.PackedTrees.{AreLevels}
 use Rattle.xq_sources.specs.Lent.{placed_lent, row_lent}
 use Rattle.xq_axes.specs.Reads.{Span, span, span_end, IsRowIn, rows_to, lowered, AreCopied, IsSized}
 use Rattle.xq_axes.proofs.Runs.{rows_to-more}

@@ -1,10 +1,10 @@
 -- What single reads, and those of a node with all that is below it, add to a meter.
 use Rattle.std.proofs.Common.{◌≡◌, ℕ, ◌+◌, ◌-◌, ◌≤◌, min, List, ap, arith}
-use Rattle.xq_regions.specs.Forest.{count}
-use Rattle.xq_regions.specs.Rows.{rows, row_at, Row}
-use Rattle.xq_regions.specs.Tree.{Tree, nodes}
+use Rattle.xq_trees.specs.Forest.{count}
+use Rattle.xq_trees.specs.Rows.{rows, row_at, Row}
+use Rattle.xq_trees.specs.Tree.{Tree, nodes}
 use Rattle.xq_sources.specs.declared.lent.LentRow.{LentRow}
-use Rattle.xq_regions.specs.declared.items.Node.{Node as Spot}
+use Rattle.xq_trees.specs.declared.items.Node.{Node as Spot}
 use Rattle.xq_sources.specs.Lent.{placed_lent}
 use Rattle.xq_sources.specs.Meters.{Readings, with_singles}
 use Rattle.xq_sources.specs.Sources.{tree_at, HasNode}

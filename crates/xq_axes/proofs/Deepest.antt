@@ -8,7 +8,7 @@ use Rattle.std.proofs.lemmas.List.{get_or-take, get_or_append_left, length-appen
 use Rattle.xq_axes.specs.private.Hits.{is_among, IsRising}
 use Rattle.xq_axes.specs.private.Waiting.{is_deeper, is_level}
 use Rattle.xq_axes.proofs.Lists.{among_at, among_index, got, got_none}
-use Rattle.xq_regions.proofs.Lists.{same_test}
+use Rattle.xq_trees.proofs.Lists.{same_test}
 
 -- # Fewer levels
 

@@ -4,16 +4,16 @@ use Rattle.std.specs.Prelude.{IsTrue}
 use Rattle.std.specs.List.{flat_map, AllByRecursion}
 use Rattle.std.proofs.lemmas.Bool.{and_from, and_parts}
 use Rattle.std.proofs.lemmas.List.Folds.{Any-from_list_any}
-use Rattle.xq_regions.specs.declared.Axis.TheVariants as axis
-use Rattle.xq_regions.specs.declared.Kind.{Kind}
-use Rattle.xq_regions.specs.declared.Kind.TheVariants.{Attribute}
-use Rattle.xq_regions.specs.Axis.{IsOnAxis}
-use Rattle.xq_regions.specs.Forest.{Forest, end, node, tops, EachNode}
-use Rattle.xq_regions.specs.Node.{HasPath, kind_at}
-use Rattle.xq_regions.specs.Order.{IsAbove}
-use Rattle.xq_regions.specs.Tree.{Label, Tree, IsTree, is_content, may_stand}
-use Rattle.xq_regions.specs.declared.items.Node.{Node}
-use Rattle.xq_regions.proofs.Paths.{at_place}
+use Rattle.xq_trees.specs.declared.Axis.TheVariants as axis
+use Rattle.xq_trees.specs.declared.Kind.{Kind}
+use Rattle.xq_trees.specs.declared.Kind.TheVariants.{Attribute}
+use Rattle.xq_trees.specs.Axis.{IsOnAxis}
+use Rattle.xq_trees.specs.Forest.{Forest, end, node, tops, EachNode}
+use Rattle.xq_trees.specs.Node.{HasPath, kind_at}
+use Rattle.xq_trees.specs.Order.{IsAbove}
+use Rattle.xq_trees.specs.Tree.{Label, Tree, IsTree, is_content, may_stand}
+use Rattle.xq_trees.specs.declared.items.Node.{Node}
+use Rattle.xq_trees.proofs.Paths.{at_place}
 use Rattle.xq_meaning.specs.declared.node_tests.Test.{Test}
 use Rattle.xq_meaning.specs.declared.node_tests.Test.TheVariants as test
 use Rattle.xq_meaning.specs.Items.{Place, place, nodes_at, places_from, same_node, is_among, in_document_order}
@@ -24,7 +24,7 @@ use Rattle.xq_axes.specs.Many.{spot, AreReached}
 use Rattle.xq_axes.specs.Nodes.{HaveAll}
 use Rattle.xq_axes.specs.DoubleSlash.{selves_and_below, after_double_slash, AreAfterDoubleSlash}
 use Rattle.xq_axes.specs.private.Standing.{Stands, AreOfTrees}
-use Rattle.xq_regions.proofs.Lists.{same_test}
+use Rattle.xq_trees.proofs.Lists.{same_test}
 use Rattle.xq_axes.proofs.Many.{any_flat}
 use Rattle.xq_axes.proofs.Merging.{any_filter}
 use Rattle.xq_axes.proofs.AxisNodes.{some_of, filter_agree, has_place, from_axis, to_axis}

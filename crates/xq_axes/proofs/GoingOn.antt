@@ -2,14 +2,14 @@
 use Rattle.std.proofs.Common.{◌≡◌, ℕ, suc, ◌+◌, ◌-◌, ◌<◌, ◌≤◌, List, [], ◌∷◌, length, get_or, min, max, Bool, true, false, ◌&&◌, ◌||◌, eqb, nat_le, cond, inl, inr, refl, sym, ◌∙◌, ap, subst, arith}
 use Rattle.std.specs.Prelude.{Option, Some, None, slice_get}
 use Rattle.std.proofs.lemmas.Bool.{cases_lt, eqb-true, eq-eqb, leb-true, le-leb, and_from, and_parts, and_left, or_cases, or_left, or_right, false_from_ne_true}
-use Rattle.xq_regions.specs.Forest.{count}
-use Rattle.xq_regions.specs.Tree.{Tree, nodes}
-use Rattle.xq_regions.specs.Rows.{rows, row_at}
-use Rattle.xq_regions.specs.Regions.{kind_of_row}
-use Rattle.xq_regions.specs.RegionTests.{plain_row, in_region}
-use Rattle.xq_regions.specs.declared.Axis.TheVariants as axis
-use Rattle.xq_regions.proofs.RegionTable.{in_region_is}
-use Rattle.xq_regions.proofs.AxisTable.{plain_kind_is}
+use Rattle.xq_trees.specs.Forest.{count}
+use Rattle.xq_trees.specs.Tree.{Tree, nodes}
+use Rattle.xq_trees.specs.Rows.{rows, row_at}
+use Rattle.xq_trees.specs.Regions.{kind_of_row}
+use Rattle.xq_trees.specs.RegionTests.{plain_row, in_region}
+use Rattle.xq_trees.specs.declared.Axis.TheVariants as axis
+use Rattle.xq_trees.proofs.RegionTable.{in_region_is}
+use Rattle.xq_trees.proofs.AxisTable.{plain_kind_is}
 use Rattle.xq_meaning.specs.declared.node_tests.Test.{Test}
 use Rattle.xq_axes.specs.Reads.{Span, span, span_end}
 use Rattle.xq_axes.specs.private.Hits.{is_among, is_hit, is_wanted, row_passes, below_where, AreUnhit, IsRising, IsReached}
@@ -17,7 +17,7 @@ use Rattle.xq_axes.specs.private.Passing.{IsEnd}
 use Rattle.xq_axes.specs.private.Downward.{level_of, is_within}
 use Rattle.xq_axes.specs.private.Waiting.{has_siblings, rows_below, next_place, place_or_end, WaitsOn, IsOn}
 use Rattle.xq_axes.proofs.Lists.{any_from, any_at, among_at, among_index, below_where-none, got, got_none, reached_none, reached_over}
-use Rattle.xq_regions.proofs.Lists.{same_test}
+use Rattle.xq_trees.proofs.Lists.{same_test}
 use Rattle.xq_axes.proofs.Siblings.{AreBeside, beside_shared, beside_after, shared_beside}
 use Rattle.xq_axes.proofs.Sizes.{node_of}
 use Rattle.xq_axes.proofs.Trees.{inside_deeper}

@@ -7,20 +7,20 @@ use Rattle.std.proofs.lemmas.Bool.{cases_lt, cases_order, eqb-true, eq-eqb, or_c
 use Rattle.std.proofs.lemmas.List.{get_or_append_left, length-append}
 use Rattle.std.proofs.lemmas.List.Edits.{get_or-insert_at, get_or-insert_below, get_or-insert_above, length-insert}
 use Rattle.std.proofs.lemmas.List.Folds.{list_any-append}
-use Rattle.xq_regions.specs.Forest.{count}
-use Rattle.xq_regions.specs.Tree.{Tree, nodes}
-use Rattle.xq_regions.specs.Rows.{rows, row_at, measured}
-use Rattle.xq_regions.specs.RegionTests.{in_region}
-use Rattle.xq_regions.specs.Nesting.{count-measured}
-use Rattle.xq_regions.specs.declared.Axis.TheVariants as axis
-use Rattle.xq_regions.proofs.Regions.{length-labels}
-use Rattle.xq_regions.proofs.RegionTable.{in_region_is}
+use Rattle.xq_trees.specs.Forest.{count}
+use Rattle.xq_trees.specs.Tree.{Tree, nodes}
+use Rattle.xq_trees.specs.Rows.{rows, row_at, measured}
+use Rattle.xq_trees.specs.RegionTests.{in_region}
+use Rattle.xq_trees.specs.Nesting.{count-measured}
+use Rattle.xq_trees.specs.declared.Axis.TheVariants as axis
+use Rattle.xq_trees.proofs.Regions.{length-labels}
+use Rattle.xq_trees.proofs.RegionTable.{in_region_is}
 use Rattle.xq_sources.specs.Parents.{IsParentRow}
 use Rattle.xq_meaning.specs.declared.node_tests.Test.{Test}
 use Rattle.xq_axes.specs.private.Hits.{is_among, is_hit, is_wanted, row_passes, below_where, IsRising}
 use Rattle.xq_axes.specs.private.KnownParents.{ends_before, AreTold}
 use Rattle.xq_axes.proofs.Lists.{any_from, any_at, below_where-agree, among_at, among_index, got, got_none}
-use Rattle.xq_regions.proofs.Lists.{same_test}
+use Rattle.xq_trees.proofs.Lists.{same_test}
 use Rattle.xq_axes.proofs.Trees.{one_parent}
 
 -- # A place more among those that rise

@@ -4,16 +4,16 @@ use Rattle.std.specs.Prelude.{filter, reverse, Option, Some, None, slice_get}
 use Rattle.std.proofs.lemmas.List.{append-nil, reverse-append, nil_from_length}
 use Rattle.std.proofs.lemmas.Bool.{cases_lt, eqb-true, eq-eqb, leb-true, le-leb, and_from, and_parts, and_left, or_cases, or_left, or_right}
 use Rattle.std.proofs.Math.Bool.{and-false}
-use Rattle.xq_regions.specs.Forest.{count}
-use Rattle.xq_regions.specs.Tree.{Tree, nodes, is_attribute}
+use Rattle.xq_trees.specs.Forest.{count}
+use Rattle.xq_trees.specs.Tree.{Tree, nodes, is_attribute}
 use Rattle.xq_sources.specs.Lent.{row_lent}
 use Rattle.xq_sources.specs.declared.lent.LentRow.{LentRow}
-use Rattle.xq_regions.specs.Rows.{Row, rows, row_at}
-use Rattle.xq_regions.specs.Regions.{kind_of_row}
-use Rattle.xq_regions.specs.RegionTests.{plain_row, in_region}
-use Rattle.xq_regions.specs.declared.Axis.TheVariants as axis
-use Rattle.xq_regions.proofs.RegionTable.{in_region_is}
-use Rattle.xq_regions.proofs.AxisTable.{plain_kind_is}
+use Rattle.xq_trees.specs.Rows.{Row, rows, row_at}
+use Rattle.xq_trees.specs.Regions.{kind_of_row}
+use Rattle.xq_trees.specs.RegionTests.{plain_row, in_region}
+use Rattle.xq_trees.specs.declared.Axis.TheVariants as axis
+use Rattle.xq_trees.proofs.RegionTable.{in_region_is}
+use Rattle.xq_trees.proofs.AxisTable.{plain_kind_is}
 use Rattle.xq_meaning.specs.declared.node_tests.Test.{Test}
 use Rattle.xq_axes.specs.Scans.{region}
 use Rattle.xq_axes.specs.Reads.{span, span_end}
@@ -24,7 +24,7 @@ use Rattle.xq_axes.specs.declared.backward.Backward.{Backward}
 use Rattle.xq_axes.specs.declared.backward.Backward.TheVariants.{Parent, PrecedingSibling}
 use Rattle.xq_axes.specs.declared.backward.Seen.{Seen}
 use Rattle.xq_axes.proofs.Lists.{any_from, any_at, among_at, among_index, not_among, below_where-none, got_none}
-use Rattle.xq_regions.proofs.Lists.{same_test}
+use Rattle.xq_trees.proofs.Lists.{same_test}
 use Rattle.xq_axes.proofs.Ranges.{last_is, empty_step}
 use Rattle.xq_axes.proofs.Scans.{back_bound}
 use Rattle.xq_axes.proofs.Siblings.{AreBeside, beside_shared, beside_after, shared_beside, parent_clear, clear_parent}

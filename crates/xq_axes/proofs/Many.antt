@@ -8,19 +8,19 @@ use Rattle.std.proofs.lemmas.List.{take_all, get_or_append_left, get_or-append-a
 use Rattle.std.proofs.lemmas.List.Elements.{Contains-append_cases}
 use Rattle.std.proofs.lemmas.List.Folds.{list_any-append, list_any_more, Any-from_list_any}
 use Rattle.std.proofs.lemmas.Map.Keys.{Less-from_sorted}
-use Rattle.xq_regions.specs.declared.Axis.{Axis}
-use Rattle.xq_regions.specs.declared.items.Node.{Node}
-use Rattle.xq_regions.specs.Forest.{count}
-use Rattle.xq_regions.specs.Order.{path_at}
-use Rattle.xq_regions.specs.RegionTests.{in_region}
-use Rattle.xq_regions.specs.Rows.{rows, row_at}
-use Rattle.xq_regions.specs.Tree.{Tree, nodes}
+use Rattle.xq_trees.specs.declared.Axis.{Axis}
+use Rattle.xq_trees.specs.declared.items.Node.{Node}
+use Rattle.xq_trees.specs.Forest.{count}
+use Rattle.xq_trees.specs.Order.{path_at}
+use Rattle.xq_trees.specs.RegionTests.{in_region}
+use Rattle.xq_trees.specs.Rows.{rows, row_at}
+use Rattle.xq_trees.specs.Tree.{Tree, nodes}
 use Rattle.xq_sources.specs.Sources.{tree_at, HasNode}
 use Rattle.xq_meaning.specs.declared.node_tests.Test.{Test}
 use Rattle.xq_meaning.specs.Items.{Place, place, nodes_at, places_from as places_of, same_node, is_among as is_among_places, in_document_order}
 use Rattle.xq_meaning.specs.Steps.{axis_nodes}
 use Rattle.xq_meaning.specs.Readings.{node_at}
-use Rattle.xq_regions.specs.Rising.{document_order, AreRising}
+use Rattle.xq_trees.specs.Rising.{document_order, AreRising}
 use Rattle.xq_axes.specs.Nodes.{HaveAll, AreOnAxis}
 use Rattle.xq_axes.specs.private.Hits.{is_hit, is_wanted, row_passes, below_where, IsRising}
 use Rattle.xq_axes.specs.Many.{spot, AreThere, places_from, is_found_from, IsNext, IsGathered}
@@ -28,8 +28,8 @@ use Rattle.xq_axes.proofs.Lists.{any_and, any_or}
 use Rattle.xq_axes.proofs.Merging.{any_map, any_here, have_one, merged}
 use Rattle.xq_axes.proofs.OnPaths.{axis_nodes_of}
 use Rattle.xq_meaning.proofs.PathLemmas.{map-map}
-use Rattle.xq_regions.specs.Items.{ItemView, Place as NodeAt}
-use Rattle.xq_regions.proofs.Rising.{same_any, from_contains, order_parts, order_less, is_one_node, one_node, node_itself, rising_none, rising_more, rising_append}
+use Rattle.xq_trees.specs.Items.{ItemView, Place as NodeAt}
+use Rattle.xq_trees.proofs.Rising.{same_any, from_contains, order_parts, order_less, is_one_node, one_node, node_itself, rising_none, rising_more, rising_append}
 use Rattle.xq_axes.proofs.Siblings.{one_hit}
 
 -- # Tests of some elements

@@ -9,20 +9,20 @@ use Rattle.std.proofs.lemmas.List.{map-append}
 use Rattle.std.proofs.lemmas.List.Elements.{Contains-append_left, Contains-append_right, Contains-append_cases}
 use Rattle.std.proofs.lemmas.List.Folds.{Any-from_list_any, list_any-from_Any}
 use Rattle.std.proofs.lemmas.List.Kept.{IsStrictlySortedBy-filter}
-use Rattle.xq_regions.specs.declared.Axis.TheVariants as axis
-use Rattle.xq_regions.specs.declared.items.Node.{Node}
-use Rattle.xq_regions.specs.Forest.{end, count}
-use Rattle.xq_regions.specs.Order.{place_of, path_at}
-use Rattle.xq_regions.specs.Tree.{Tree, nodes}
-use Rattle.xq_regions.proofs.AxisTable.{on_axis_is}
+use Rattle.xq_trees.specs.declared.Axis.TheVariants as axis
+use Rattle.xq_trees.specs.declared.items.Node.{Node}
+use Rattle.xq_trees.specs.Forest.{end, count}
+use Rattle.xq_trees.specs.Order.{place_of, path_at}
+use Rattle.xq_trees.specs.Tree.{Tree, nodes}
+use Rattle.xq_trees.proofs.AxisTable.{on_axis_is}
 use Rattle.xq_sources.specs.Sources.{tree_at, HasNode}
 use Rattle.xq_meaning.specs.Items.{Place, place, places_from, same_node, is_among, in_document_order}
 use Rattle.xq_meaning.specs.Readings.{node_at}
-use Rattle.xq_regions.specs.Rising.{document_order, AreRising}
+use Rattle.xq_trees.specs.Rising.{document_order, AreRising}
 use Rattle.xq_axes.specs.Nodes.{HaveAll}
 use Rattle.xq_axes.specs.Many.{spot}
-use Rattle.xq_regions.proofs.Lists.{same_test}
-use Rattle.xq_regions.proofs.Rising.{same_fields, order_less, same_any, same_rising, from_contains, rising_append}
+use Rattle.xq_trees.proofs.Lists.{same_test}
+use Rattle.xq_trees.proofs.Rising.{same_fields, order_less, same_any, same_rising, from_contains, rising_append}
 use Rattle.xq_meaning.proofs.PathLemmas.{map-map, filter-map, paths-range}
 use Rattle.xq_axes.proofs.Sizes.{node_of}
 

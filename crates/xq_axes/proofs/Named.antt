@@ -8,12 +8,12 @@ use Rattle.std.proofs.lemmas.List.{append-nil, length-append, get_or_append_left
 use Rattle.std.proofs.lemmas.List.Elements.{filter-append}
 use Rattle.std.proofs.lemmas.List.FromFn.{length-enumerate_from, get_or-enumerate_from}
 use Rattle.xq_atoms.specs.Text.{Text, text_eq}
-use Rattle.xq_regions.specs.Forest.{count}
-use Rattle.xq_regions.specs.Tree.{Tree, nodes, is_attribute}
-use Rattle.xq_regions.specs.Rows.{Row, no_row, row_at, rows, placed_rows}
-use Rattle.xq_regions.specs.declared.Kind.{Kind}
-use Rattle.xq_regions.specs.declared.Kind.TheVariants as kind
-use Rattle.xq_regions.proofs.Encoding.{length-rows}
+use Rattle.xq_trees.specs.Forest.{count}
+use Rattle.xq_trees.specs.Tree.{Tree, nodes, is_attribute}
+use Rattle.xq_trees.specs.Rows.{Row, no_row, row_at, rows, placed_rows}
+use Rattle.xq_trees.specs.declared.Kind.{Kind}
+use Rattle.xq_trees.specs.declared.Kind.TheVariants as kind
+use Rattle.xq_trees.proofs.Encoding.{length-rows}
 use Rattle.xq_sources.specs.Names.{is_element, is_named, named}
 use Rattle.xq_meaning.specs.declared.node_tests.Test.{Test}
 use Rattle.xq_meaning.specs.declared.node_tests.Test.TheVariants as tests
@@ -24,8 +24,8 @@ use Rattle.xq_axes.specs.private.Hits.{is_wanted}
 use Rattle.xq_axes.specs.private.Downward.{IsJudged}
 use Rattle.xq_axes.specs.Reads.{Span}
 use Rattle.xq_axes.specs.declared.downward.Downward.TheVariants.{Descendant}
-use Rattle.xq_regions.specs.RegionTests.{plain_row}
-use Rattle.xq_regions.specs.declared.Axis.TheVariants as axis
+use Rattle.xq_trees.specs.RegionTests.{plain_row}
+use Rattle.xq_trees.specs.declared.Axis.TheVariants as axis
 use Rattle.xq_axes.proofs.Clusters.{descendant}
 use Rattle.xq_axes.proofs.Sizes.{node_of}
 

@@ -3,16 +3,16 @@ use Rattle.std.proofs.Common.{◌≡◌, ℕ, zero, suc, ◌+◌, ◌<◌, List,
 use Rattle.std.specs.Prelude.{filter}
 use Rattle.std.specs.List.{range_with_len}
 use Rattle.std.proofs.lemmas.List.Elements.{filter-append}
-use Rattle.xq_regions.specs.Forest.{count}
-use Rattle.xq_regions.specs.Tree.{Label, Tree, nodes}
-use Rattle.xq_regions.specs.Order.{path_at}
-use Rattle.xq_regions.specs.AxisTests.{on_axis}
-use Rattle.xq_regions.specs.RegionTests.{in_region}
-use Rattle.xq_regions.specs.Rows.{rows, row_at}
-use Rattle.xq_regions.specs.declared.Axis.{Axis}
-use Rattle.xq_regions.specs.declared.items.Node.{Node as Spot}
-use Rattle.xq_regions.proofs.RegionTable.{region_is_axis}
-use Rattle.xq_regions.proofs.AxisTable.{on_axis_is}
+use Rattle.xq_trees.specs.Forest.{count}
+use Rattle.xq_trees.specs.Tree.{Label, Tree, nodes}
+use Rattle.xq_trees.specs.Order.{path_at}
+use Rattle.xq_trees.specs.AxisTests.{on_axis}
+use Rattle.xq_trees.specs.RegionTests.{in_region}
+use Rattle.xq_trees.specs.Rows.{rows, row_at}
+use Rattle.xq_trees.specs.declared.Axis.{Axis}
+use Rattle.xq_trees.specs.declared.items.Node.{Node as Spot}
+use Rattle.xq_trees.proofs.RegionTable.{region_is_axis}
+use Rattle.xq_trees.proofs.AxisTable.{on_axis_is}
 use Rattle.xq_sources.specs.Sources.{tree_at, HasNode}
 use Rattle.xq_meaning.specs.declared.node_tests.Test.{Test}
 use Rattle.xq_meaning.specs.Items.{Place, place, nodes_at}
@@ -21,7 +21,7 @@ use Rattle.xq_meaning.specs.Readings.{node_at}
 use Rattle.xq_meaning.proofs.PathLemmas.{map-map, range-split, filter-map, paths-range}
 use Rattle.xq_axes.specs.private.Hits.{is_hit, is_wanted, row_passes, below_where}
 use Rattle.xq_axes.proofs.Lists.{below_where-agree}
-use Rattle.xq_regions.proofs.Lists.{same_test}
+use Rattle.xq_trees.proofs.Lists.{same_test}
 use Rattle.xq_axes.proofs.Sizes.{node_of}
 use Rattle.xq_axes.proofs.Siblings.{one_hit}
 

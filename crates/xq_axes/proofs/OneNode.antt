@@ -1,13 +1,13 @@
 -- Children and attributes of one node, judged row by row.
 use Rattle.std.proofs.Common.{◌≡◌, ℕ, suc, ◌+◌, ◌-◌, ◌<◌, ◌≤◌, [], ◌∷◌, length, min, Bool, true, false, not, ◌&&◌, ◌||◌, nat_eq, refl, sym, ◌∙◌, ap, subst, arith}
 use Rattle.std.proofs.lemmas.Bool.{eqb-true, and_parts, false_from_ne_true}
-use Rattle.xq_regions.specs.Forest.{count}
-use Rattle.xq_regions.specs.Tree.{Tree, nodes}
-use Rattle.xq_regions.specs.Rows.{rows, row_at}
-use Rattle.xq_regions.specs.Regions.{IsInside}
-use Rattle.xq_regions.specs.RegionTests.{inside, one_below, plain_row, in_region}
-use Rattle.xq_regions.specs.declared.Axis.{Axis}
-use Rattle.xq_regions.specs.declared.Axis.TheVariants as axis
+use Rattle.xq_trees.specs.Forest.{count}
+use Rattle.xq_trees.specs.Tree.{Tree, nodes}
+use Rattle.xq_trees.specs.Rows.{rows, row_at}
+use Rattle.xq_trees.specs.Regions.{IsInside}
+use Rattle.xq_trees.specs.RegionTests.{inside, one_below, plain_row, in_region}
+use Rattle.xq_trees.specs.declared.Axis.{Axis}
+use Rattle.xq_trees.specs.declared.Axis.TheVariants as axis
 use Rattle.xq_meaning.specs.declared.node_tests.Test.{Test}
 use Rattle.xq_axes.specs.Reads.{Span, span, span_end, IsSized}
 use Rattle.xq_axes.specs.Scans.{in_scan, region}

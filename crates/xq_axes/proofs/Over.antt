@@ -3,11 +3,11 @@ use Rattle.std.proofs.Common.{◌≡◌, ℕ, suc, ◌+◌, ◌-◌, ◌<◌, �
 use Rattle.std.specs.Prelude.{Option, Some, None, slice_get}
 use Rattle.std.specs.List.{list_any}
 use Rattle.std.proofs.lemmas.Bool.{cases_lt, cases_order, eqb-true, and_parts}
-use Rattle.xq_regions.specs.Forest.{count}
-use Rattle.xq_regions.specs.Tree.{Tree, nodes}
-use Rattle.xq_regions.specs.Rows.{rows, row_at}
-use Rattle.xq_regions.specs.Regions.{IsInside}
-use Rattle.xq_regions.specs.RegionTests.{inside, plain_row, in_region}
+use Rattle.xq_trees.specs.Forest.{count}
+use Rattle.xq_trees.specs.Tree.{Tree, nodes}
+use Rattle.xq_trees.specs.Rows.{rows, row_at}
+use Rattle.xq_trees.specs.Regions.{IsInside}
+use Rattle.xq_trees.specs.RegionTests.{inside, plain_row, in_region}
 use Rattle.xq_axes.specs.Reads.{Span, span_end}
 use Rattle.xq_axes.specs.private.Hits.{is_among, is_hit, AreUnhit, IsReached}
 use Rattle.xq_axes.specs.private.Downward.{axis_of, level_of, end_of, stop, is_within, rows_over, IsJudged}

@@ -7,18 +7,18 @@ use Rattle.std.proofs.lemmas.List.{take_all}
 use Rattle.std.proofs.lemmas.List.Folds.{list_any-append}
 use Rattle.std.proofs.lemmas.List.FromFn.{length-enumerate_from}
 use Rattle.xq_atoms.specs.Text.{Text, text_eq}
-use Rattle.xq_regions.specs.Forest.{count}
-use Rattle.xq_regions.specs.Order.{path_at}
-use Rattle.xq_regions.specs.RegionTests.{inside, one_below, in_region}
-use Rattle.xq_regions.specs.Rows.{Row, row_at, rows, placed_rows}
-use Rattle.xq_regions.specs.Tree.{Label, Tree, nodes, is_attribute}
-use Rattle.xq_regions.specs.Value.{string_value, texts}
-use Rattle.xq_regions.specs.declared.Axis.TheVariants as axis
-use Rattle.xq_regions.specs.declared.Kind.{Kind}
-use Rattle.xq_regions.specs.declared.Kind.TheVariants as kind
-use Rattle.xq_regions.specs.declared.items.Node.{Node as Spot}
-use Rattle.xq_regions.proofs.Encoding.{length-rows}
-use Rattle.xq_found.specs.Values.{is_attribute as is_found, is_valued, valued}
+use Rattle.xq_trees.specs.Forest.{count}
+use Rattle.xq_trees.specs.Order.{path_at}
+use Rattle.xq_trees.specs.RegionTests.{inside, one_below, in_region}
+use Rattle.xq_trees.specs.Rows.{Row, row_at, rows, placed_rows}
+use Rattle.xq_trees.specs.Tree.{Label, Tree, nodes, is_attribute}
+use Rattle.xq_trees.specs.Value.{string_value, texts}
+use Rattle.xq_trees.specs.declared.Axis.TheVariants as axis
+use Rattle.xq_trees.specs.declared.Kind.{Kind}
+use Rattle.xq_trees.specs.declared.Kind.TheVariants as kind
+use Rattle.xq_trees.specs.declared.items.Node.{Node as Spot}
+use Rattle.xq_trees.proofs.Encoding.{length-rows}
+use Rattle.xq_packed.specs.Values.{is_attribute as is_found, is_valued, valued}
 use Rattle.xq_sources.specs.Sources.{tree_at, HasNode}
 use Rattle.xq_meaning.specs.declared.node_tests.Test.{Test}
 use Rattle.xq_meaning.specs.declared.node_tests.Test.TheVariants as tests

@@ -4,12 +4,12 @@ use Rattle.std.specs.Prelude.{filter}
 use Rattle.std.proofs.lemmas.List.{append-nil, map-append, take_more}
 use Rattle.std.proofs.lemmas.List.Elements.{filter-append}
 use Rattle.xq_atoms.specs.Text.{Text}
-use Rattle.xq_regions.specs.Items.{ItemView, Place as NodeAt}
-use Rattle.xq_regions.specs.Rows.{rows}
-use Rattle.xq_regions.specs.Tree.{Tree}
-use Rattle.xq_regions.specs.declared.Axis.TheVariants as axis
-use Rattle.xq_regions.specs.declared.items.Node.{Node as Spot}
-use Rattle.xq_found.specs.Values.{valued}
+use Rattle.xq_trees.specs.Items.{ItemView, Place as NodeAt}
+use Rattle.xq_trees.specs.Rows.{rows}
+use Rattle.xq_trees.specs.Tree.{Tree}
+use Rattle.xq_trees.specs.declared.Axis.TheVariants as axis
+use Rattle.xq_trees.specs.declared.items.Node.{Node as Spot}
+use Rattle.xq_packed.specs.Values.{valued}
 use Rattle.xq_meaning.specs.declared.node_tests.Test.TheVariants as tests
 use Rattle.xq_axes.specs.Many.{spot}
 use Rattle.xq_axes.specs.Owners.{owns_valued}

@@ -5,10 +5,10 @@ use Rattle.std.specs.Prelude.{Result, IfOk}
 use Rattle.std.proofs.lemmas.Result.{IfOk-weaker}
 use Rattle.smallvec.specs.SmallVec.{SmallVec}
 use Rattle.xq_sources.specs.declared.lent.LentRow.{LentRow}
-use Rattle.xq_regions.specs.declared.Axis.{Axis}
+use Rattle.xq_trees.specs.declared.Axis.{Axis}
 use Rattle.xq_meaning.specs.declared.node_tests.Test.{Test}
-use Rattle.xq_regions.specs.Tree.{Tree}
-use Rattle.xq_regions.specs.Rows.{Row, rows, row_at}
+use Rattle.xq_trees.specs.Tree.{Tree}
+use Rattle.xq_trees.specs.Rows.{Row, rows, row_at}
 use Rattle.xq_sources.specs.Lent.{row_lent}
 use Rattle.xq_axes.specs.private.Hits.{is_hit, is_wanted, row_passes, below_where, AreUnhit}
 use Rattle.xq_axes.specs.Reads.{Span, span_end, IsRowIn}

@@ -4,19 +4,19 @@ use Rattle.std.specs.Prelude.{Option, Some, None, slice_get}
 use Rattle.std.proofs.lemmas.List.{take_all, length-take, get_or-take}
 use Rattle.std.specs.List.{list_any}
 use Rattle.std.proofs.lemmas.Bool.{cases_lt, eqb-true, leb-true, le-leb, and_parts, and_left, or_cases}
-use Rattle.xq_regions.specs.Forest.{count}
-use Rattle.xq_regions.specs.Tree.{Tree, nodes}
-use Rattle.xq_regions.specs.Rows.{rows, row_at}
-use Rattle.xq_regions.specs.RegionTests.{inside, after, plain_row, in_region}
-use Rattle.xq_regions.specs.declared.Axis.{Axis}
-use Rattle.xq_regions.specs.declared.Axis.TheVariants as axis
+use Rattle.xq_trees.specs.Forest.{count}
+use Rattle.xq_trees.specs.Tree.{Tree, nodes}
+use Rattle.xq_trees.specs.Rows.{rows, row_at}
+use Rattle.xq_trees.specs.RegionTests.{inside, after, plain_row, in_region}
+use Rattle.xq_trees.specs.declared.Axis.{Axis}
+use Rattle.xq_trees.specs.declared.Axis.TheVariants as axis
 use Rattle.xq_meaning.specs.declared.node_tests.Test.{Test}
 use Rattle.xq_axes.specs.Reads.{span, span_end}
 use Rattle.xq_axes.specs.private.Hits.{is_among, is_hit, is_wanted, row_passes, below_where, IsRising, IsReached}
 use Rattle.xq_axes.specs.private.Downward.{end_of, is_within}
 use Rattle.xq_axes.specs.private.Passing.{IsLast, IsEnd, IsLeastEnd, axis_above, is_next_within}
 use Rattle.xq_axes.proofs.Lists.{any_from, any_at, any_and, any_or, any_none, below_where-none, got}
-use Rattle.xq_regions.proofs.Lists.{same_test}
+use Rattle.xq_trees.proofs.Lists.{same_test}
 use Rattle.xq_axes.proofs.Clusters.{inside_true, true_inside}
 
 -- no row of the places from n to before m is wanted where none is hit

@@ -6,15 +6,15 @@ use Rattle.std.specs.declared.cmp.Ordering.TheVariants.{Less}
 use Rattle.std.proofs.lemmas.Bool.{le-leb, lt-ltb, cases_lt, or_right}
 use Rattle.std.proofs.lemmas.List.{length-append, length-map, length-take, get_or-map, get_or-take, map-append, take_more, take_all}
 use Rattle.std.proofs.lemmas.Map.Keys.{Less-from_sorted}
-use Rattle.xq_regions.specs.Forest.{count}
-use Rattle.xq_regions.specs.RegionTests.{inside}
-use Rattle.xq_regions.specs.Tree.{Tree, nodes}
-use Rattle.xq_regions.specs.Rows.{Row, row_at, rows}
-use Rattle.xq_regions.specs.declared.Axis.{Axis}
-use Rattle.xq_regions.specs.declared.Axis.TheVariants as axis
-use Rattle.xq_regions.specs.declared.items.Node.{Node}
+use Rattle.xq_trees.specs.Forest.{count}
+use Rattle.xq_trees.specs.RegionTests.{inside}
+use Rattle.xq_trees.specs.Tree.{Tree, nodes}
+use Rattle.xq_trees.specs.Rows.{Row, row_at, rows}
+use Rattle.xq_trees.specs.declared.Axis.{Axis}
+use Rattle.xq_trees.specs.declared.Axis.TheVariants as axis
+use Rattle.xq_trees.specs.declared.items.Node.{Node}
 use Rattle.xq_sources.specs.Sources.{tree_at}
-use Rattle.xq_regions.specs.Rising.{document_order, AreRising}
+use Rattle.xq_trees.specs.Rising.{document_order, AreRising}
 use Rattle.xq_axes.specs.Scans.{in_scan, region, places_of, AreOf}
 use Rattle.xq_axes.specs.private.Hits.{below_where, IsRising}
 use Rattle.xq_axes.specs.Reads.{span, span_end}
@@ -30,7 +30,7 @@ use Rattle.xq_axes.specs.declared.downward.Downward.TheVariants.{Child, Attribut
 use Rattle.xq_axes.proofs.Lists.{any_from}
 use Rattle.xq_axes.proofs.Merging.{any_map}
 use Rattle.xq_axes.proofs.OnPaths.{range-filter}
-use Rattle.xq_regions.proofs.Rising.{from_contains, same_any, order_parts}
+use Rattle.xq_trees.proofs.Rising.{from_contains, same_any, order_parts}
 use Rattle.xq_axes.proofs.Sizes.{node_of}
 
 -- the numbers from low to before m all pass

@@ -3,11 +3,11 @@ use Rattle.std.proofs.Common.{◌≡◌, ℕ, ◌+◌, ◌<◌, ◌≤◌, List,
 use Rattle.std.specs.List.{list_any}
 use Rattle.std.proofs.lemmas.List.{length-set, get_or_default}
 use Rattle.std.proofs.lemmas.Bool.{cases_lt, cases_eq, eqb-true, and_parts, and_left, or_cases, or_left}
-use Rattle.xq_regions.specs.Forest.{count}
-use Rattle.xq_regions.specs.Tree.{Tree, nodes}
-use Rattle.xq_regions.specs.Rows.{Row, rows, row_at}
-use Rattle.xq_regions.specs.Regions.{IsInside}
-use Rattle.xq_regions.specs.RegionTests.{inside, plain_row, in_region}
+use Rattle.xq_trees.specs.Forest.{count}
+use Rattle.xq_trees.specs.Tree.{Tree, nodes}
+use Rattle.xq_trees.specs.Rows.{Row, rows, row_at}
+use Rattle.xq_trees.specs.Regions.{IsInside}
+use Rattle.xq_trees.specs.RegionTests.{inside, plain_row, in_region}
 use Rattle.xq_meaning.specs.declared.node_tests.Test.{Test}
 use Rattle.xq_axes.specs.Reads.{span, IsSized}
 use Rattle.xq_axes.specs.private.Hits.{is_among, is_hit, is_wanted, row_passes, below_where, IsRising, IsReached}

@@ -2,18 +2,18 @@
 use Rattle.std.proofs.Common.{◌≡◌, ℕ, suc, ◌+◌, ◌<◌, List, [], ◌∷◌, length, take, min, Result, Ok, Err, true, false, refl, sym, ◌∙◌, ap, subst, arith}
 use Rattle.std.specs.Prelude.{Some, slice_get, IfOk, OnOk}
 use Rattle.std.proofs.lemmas.List.{drop_all, length-take}
-use Rattle.xq_regions.specs.declared.Kind.{Kind}
-use Rattle.xq_regions.specs.declared.Kind.TheVariants.{Document, Element, Attribute, Text, Comment, ProcessingInstruction}
-use Rattle.xq_regions.specs.Forest.{count, labels}
-use Rattle.xq_regions.specs.Tree.{Label, Tree, IsTree, nodes}
-use Rattle.xq_regions.specs.Node.{HasPath, below_at, subtree}
-use Rattle.xq_regions.specs.Order.{place_of, path_at}
-use Rattle.xq_regions.specs.Rows.{Row, row_at, rows, measured}
-use Rattle.xq_regions.specs.Value.{texts, string_value, string_value_by}
-use Rattle.xq_regions.proofs.Paths.{at_place, within}
-use Rattle.xq_regions.proofs.Regions.{Describes, row_at-place_of}
+use Rattle.xq_trees.specs.declared.Kind.{Kind}
+use Rattle.xq_trees.specs.declared.Kind.TheVariants.{Document, Element, Attribute, Text, Comment, ProcessingInstruction}
+use Rattle.xq_trees.specs.Forest.{count, labels}
+use Rattle.xq_trees.specs.Tree.{Label, Tree, IsTree, nodes}
+use Rattle.xq_trees.specs.Node.{HasPath, below_at, subtree}
+use Rattle.xq_trees.specs.Order.{place_of, path_at}
+use Rattle.xq_trees.specs.Rows.{Row, row_at, rows, measured}
+use Rattle.xq_trees.specs.Value.{texts, string_value, string_value_by}
+use Rattle.xq_trees.proofs.Paths.{at_place, within}
+use Rattle.xq_trees.proofs.Regions.{Describes, row_at-place_of}
 use Rattle.xq_sources.specs.declared.lent.LentRow.{LentRow}
-use Rattle.xq_regions.specs.declared.items.Node.{Node as Spot}
+use Rattle.xq_trees.specs.declared.items.Node.{Node as Spot}
 use Rattle.xq_sources.specs.Lent.{placed_lent, row_lent}
 use Rattle.xq_sources.specs.Sources.{tree_at, HasNode}
 use Rattle.xq_meaning.specs.Items.{tree_below}

@@ -4,16 +4,16 @@ use Rattle.std.specs.Prelude.{slice_get, Some}
 use Rattle.std.proofs.lemmas.List.{append-nil, flat_map_more}
 use Rattle.std.proofs.lemmas.Option.{slice_get_within, get_or_from_slice_get}
 use Rattle.xq_sources.specs.declared.lent.LentRow.{LentRow}
-use Rattle.xq_regions.specs.declared.Kind.{Kind}
-use Rattle.xq_regions.specs.declared.Kind.TheVariants.{Document, Element, Attribute, Text, Comment, ProcessingInstruction}
-use Rattle.xq_regions.specs.Forest.{count}
-use Rattle.xq_regions.specs.Node.{below_at}
-use Rattle.xq_regions.specs.Order.{path_at}
-use Rattle.xq_regions.specs.Tree.{Tree, nodes}
-use Rattle.xq_regions.specs.Rows.{Row, no_row, row_at, rows}
-use Rattle.xq_regions.specs.Value.{text_of, texts}
-use Rattle.xq_regions.proofs.Encoding.{length-rows}
-use Rattle.xq_regions.specs.declared.items.Node.{Node as Spot}
+use Rattle.xq_trees.specs.declared.Kind.{Kind}
+use Rattle.xq_trees.specs.declared.Kind.TheVariants.{Document, Element, Attribute, Text, Comment, ProcessingInstruction}
+use Rattle.xq_trees.specs.Forest.{count}
+use Rattle.xq_trees.specs.Node.{below_at}
+use Rattle.xq_trees.specs.Order.{path_at}
+use Rattle.xq_trees.specs.Tree.{Tree, nodes}
+use Rattle.xq_trees.specs.Rows.{Row, no_row, row_at, rows}
+use Rattle.xq_trees.specs.Value.{text_of, texts}
+use Rattle.xq_trees.proofs.Encoding.{length-rows}
+use Rattle.xq_trees.specs.declared.items.Node.{Node as Spot}
 use Rattle.xq_sources.specs.Lenders.{IsRun}
 use Rattle.xq_sources.specs.Lent.{placed_lent}
 use Rattle.xq_sources.specs.Sources.{tree_at, rows_between, HasTree, HasNode}

@@ -1,13 +1,13 @@
 -- Rows that hold each other.
 use Rattle.std.proofs.Common.{◌≡◌, ℕ, zero, suc, ◌<◌, ◌≤◌, List, [], ◌∷◌, length, inl, inr, refl, sym, ◌∙◌, ap, subst, arith}
 use Rattle.std.proofs.lemmas.Bool.{cases_lt, cases_order}
-use Rattle.xq_regions.specs.Forest.{Forest, end, node, count}
-use Rattle.xq_regions.specs.Tree.{Tree, nodes}
-use Rattle.xq_regions.specs.Node.{HasPath}
-use Rattle.xq_regions.specs.Order.{place_of, path_at, IsAbove}
-use Rattle.xq_regions.specs.Rows.{rows, row_at}
-use Rattle.xq_regions.specs.Regions.{IsInside}
-use Rattle.xq_regions.proofs.AxisRegions.{located}
+use Rattle.xq_trees.specs.Forest.{Forest, end, node, count}
+use Rattle.xq_trees.specs.Tree.{Tree, nodes}
+use Rattle.xq_trees.specs.Node.{HasPath}
+use Rattle.xq_trees.specs.Order.{place_of, path_at, IsAbove}
+use Rattle.xq_trees.specs.Rows.{rows, row_at}
+use Rattle.xq_trees.specs.Regions.{IsInside}
+use Rattle.xq_trees.proofs.AxisRegions.{located}
 use Rattle.xq_axes.specs.private.Downward.{level_of, end_of}
 use Rattle.xq_axes.specs.private.Waiting.{IsParent}
 use Rattle.xq_axes.proofs.Sizes.{node_of}

@@ -1,9 +1,9 @@
 -- What `//` and a step to children lead to: XPath 3.1, section 3.3.5.
 use Rattle.std.specs.Prelude.{ℕ, ◌≡◌, List, map}
 use Rattle.std.specs.List.{flat_map}
-use Rattle.xq_regions.specs.Rising.{AreRising}
-use Rattle.xq_regions.specs.Tree.{Tree}
-use Rattle.xq_regions.specs.declared.Axis.TheVariants.{Child, DescendantOrSelf}
+use Rattle.xq_trees.specs.Rising.{AreRising}
+use Rattle.xq_trees.specs.Tree.{Tree}
+use Rattle.xq_trees.specs.declared.Axis.TheVariants.{Child, DescendantOrSelf}
 use Rattle.xq_meaning.specs.Items.{Place, in_document_order}
 use Rattle.xq_meaning.specs.Readings.{node_at}
 use Rattle.xq_meaning.specs.Steps.{axis_nodes}

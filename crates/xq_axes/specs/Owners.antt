@@ -2,12 +2,12 @@
 use Rattle.std.specs.Prelude.{ℕ, List, Bool, false}
 use Rattle.std.specs.List.{list_any}
 use Rattle.xq_atoms.specs.Text.{Text}
-use Rattle.xq_regions.specs.Items.{ItemView, Place as NodeAt, Value}
-use Rattle.xq_regions.specs.RegionTests.{in_region}
-use Rattle.xq_regions.specs.Rows.{rows}
-use Rattle.xq_regions.specs.Tree.{Tree}
-use Rattle.xq_regions.specs.declared.Axis.TheVariants as axis
-use Rattle.xq_found.specs.Values.{valued}
+use Rattle.xq_trees.specs.Items.{ItemView, Place as NodeAt, Value}
+use Rattle.xq_trees.specs.RegionTests.{in_region}
+use Rattle.xq_trees.specs.Rows.{rows}
+use Rattle.xq_trees.specs.Tree.{Tree}
+use Rattle.xq_trees.specs.declared.Axis.TheVariants as axis
+use Rattle.xq_packed.specs.Values.{valued}
 use Rattle.xq_sources.specs.Sources.{tree_at}
 
 -- the node at place k is the parent of an attribute with this name and this value

@@ -2,12 +2,12 @@
 use Rattle.std.proofs.Common.{suc}
 use Rattle.std.specs.Prelude.{ℕ, ◌+◌, ◌-◌, ◌<◌, ◌≤◌, ◌≡◌, List, [], ◌∷◌, take, drop, map, min, max, Bool, true, false}
 use Rattle.std.specs.List.{flat_map}
-use Rattle.xq_regions.specs.Forest.{count}
-use Rattle.xq_regions.specs.Tree.{Tree, IsTree, nodes}
-use Rattle.xq_regions.specs.Rows.{Row, row_at, rows}
-use Rattle.xq_regions.specs.Value.{text_of}
-use Rattle.xq_regions.specs.declared.Kind.{Kind}
-use Rattle.xq_regions.specs.declared.Kind.TheVariants.{Document, Element}
+use Rattle.xq_trees.specs.Forest.{count}
+use Rattle.xq_trees.specs.Tree.{Tree, IsTree, nodes}
+use Rattle.xq_trees.specs.Rows.{Row, row_at, rows}
+use Rattle.xq_trees.specs.Value.{text_of}
+use Rattle.xq_trees.specs.declared.Kind.{Kind}
+use Rattle.xq_trees.specs.declared.Kind.TheVariants.{Document, Element}
 
 -- the places from low to high, both included
 pub record Span : Type 0 where

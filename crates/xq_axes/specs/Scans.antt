@@ -1,13 +1,13 @@
 -- The rows of ranges that a step has to read.
 use Rattle.std.specs.Prelude.{ℕ, ◌≡◌, List, map, filter, Bool, false, ◌||◌, nat_eq, nat_lt, nat_le}
 use Rattle.std.specs.List.{list_any, range_with_len, AllByRecursion}
-use Rattle.xq_regions.specs.Forest.{count}
-use Rattle.xq_regions.specs.Tree.{Tree, nodes}
-use Rattle.xq_regions.specs.Rows.{Row, rows}
-use Rattle.xq_regions.specs.RegionTests.{inside, after}
-use Rattle.xq_regions.specs.declared.Axis.{Axis}
-use Rattle.xq_regions.specs.declared.Axis.TheVariants.{Child, Descendant, DescendantOrSelf, SelfNode, Attributes, Parent, Ancestor, AncestorOrSelf, Following, FollowingSibling, Preceding, PrecedingSibling}
-use Rattle.xq_regions.specs.declared.items.Node.{Node}
+use Rattle.xq_trees.specs.Forest.{count}
+use Rattle.xq_trees.specs.Tree.{Tree, nodes}
+use Rattle.xq_trees.specs.Rows.{Row, rows}
+use Rattle.xq_trees.specs.RegionTests.{inside, after}
+use Rattle.xq_trees.specs.declared.Axis.{Axis}
+use Rattle.xq_trees.specs.declared.Axis.TheVariants.{Child, Descendant, DescendantOrSelf, SelfNode, Attributes, Parent, Ancestor, AncestorOrSelf, Following, FollowingSibling, Preceding, PrecedingSibling}
+use Rattle.xq_trees.specs.declared.items.Node.{Node}
 
 -- the row p is in the region of the axis from v: below it; below it or its own; after its rows;
 -- before it; before it or its own; its own or after it.

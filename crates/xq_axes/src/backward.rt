@@ -1,8 +1,8 @@
 //! Axes to what is found by looking back from the context nodes: parent and preceding-sibling.
 ghost use Rattle.std.specs.Prelude.{◌≡◌, ◌+◌, ◌-◌, ◌<◌, ◌≤◌, ◌&&◌, [], ℕ, length, IfOk, OnOk};
-ghost use Rattle.xq_regions.specs.Forest.{count};
-ghost use Rattle.xq_regions.specs.Tree.{Tree, nodes};
-ghost use Rattle.xq_regions.specs.Rows.{rows, row_at};
+ghost use Rattle.xq_trees.specs.Forest.{count};
+ghost use Rattle.xq_trees.specs.Tree.{Tree, nodes};
+ghost use Rattle.xq_trees.specs.Rows.{rows, row_at};
 ghost use Rattle.xq_meaning.specs.declared.node_tests.Test.{Test as TestLem};
 ghost use Rattle.xq_sources.specs.Sources.{tree_at};
 ghost use Rattle.xq_axes.specs.Scans.{region};

@@ -1,7 +1,7 @@
 //! A copy of a node with all that is below it.
 ghost use Rattle.std.specs.Prelude.{◌≡◌, ◌+◌, ◌≤◌, IfOk, OnOk};
-ghost use Rattle.xq_regions.specs.Forest.{count};
-ghost use Rattle.xq_regions.specs.Tree.{nodes};
+ghost use Rattle.xq_trees.specs.Forest.{count};
+ghost use Rattle.xq_trees.specs.Tree.{nodes};
 ghost use Rattle.xq_sources.specs.Sources.{HasNode};
 ghost use Rattle.xq_meaning.specs.Items.{tree_below};
 ghost use Rattle.xq_meaning.specs.Readings.{node_at};
@@ -10,10 +10,9 @@ ghost use Rattle.xq_axes.specs.Reads.{AreCopied};
 use crate::walks::{Visitor, walk};
 use std::alloc::Global;
 use xq_atoms::Want;
-use xq_packed::PackedRows;
-use xq_packed_trees::PackedTree;
-use xq_regions::Node;
+use xq_packed::{PackedRows, PackedTree};
 use xq_sources::{LentRow, RowLender};
+use xq_trees::Node;
 
 /// Copies of rows, the first of which is at the level, as rows of a tree of their own.
 #[derive(Drop)]

@@ -1,7 +1,7 @@
 //! Axes to what is below the context nodes: child, attribute, descendant and descendant-or-self.
 ghost use Rattle.std.specs.Prelude.{◌≡◌, ◌+◌, ◌-◌, ◌<◌, ◌≤◌, ◌&&◌, ℕ, length, min, true, false, nat_lt, slice_get, slice_set, slice_index_or, if◌then◌else◌, IfOk, OnOk};
-ghost use Rattle.xq_regions.specs.Forest.{count};
-ghost use Rattle.xq_regions.specs.Tree.{nodes};
+ghost use Rattle.xq_trees.specs.Forest.{count};
+ghost use Rattle.xq_trees.specs.Tree.{nodes};
 ghost use Rattle.xq_sources.specs.Sources.{tree_at};
 ghost use Rattle.xq_axes.specs.Reads.{span, span_end};
 ghost use Rattle.xq_axes.specs.Scans.{region};

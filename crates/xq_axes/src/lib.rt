@@ -2,6 +2,7 @@
 #![tactic(auto)]
 
 mod attributes;
+mod axis_order;
 mod backward;
 mod children;
 mod contexts;
@@ -23,6 +24,7 @@ mod tests;
 mod values;
 mod walks;
 
+pub use axis_order::in_axis_order;
 pub use copies::copy;
 pub use merges::merge;
 pub use owners::with_value;

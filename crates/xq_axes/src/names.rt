@@ -1,7 +1,7 @@
 //! Elements by their names, where the lender tells their places.
 ghost use Rattle.std.specs.Prelude.{◌≡◌, ◌++◌, ◌+◌, ◌<◌, ◌≤◌, ℕ, Bool, Some, true, false, length, IfOk, IfSome};
-ghost use Rattle.xq_regions.specs.Forest.{count};
-ghost use Rattle.xq_regions.specs.Tree.{nodes};
+ghost use Rattle.xq_trees.specs.Forest.{count};
+ghost use Rattle.xq_trees.specs.Tree.{nodes};
 ghost use Rattle.xq_sources.specs.Sources.{tree_at};
 ghost use Rattle.xq_meaning.specs.declared.node_tests.Test.TheVariants as tests;
 ghost use Rattle.xq_axes.specs.private.Hits.{below_where, IsRising, IsReached};

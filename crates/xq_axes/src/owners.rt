@@ -1,6 +1,6 @@
 //! Nodes by the values of their attributes, where the lender tells where these lie.
 ghost use Rattle.std.specs.Prelude.{◌≡◌, ℕ, Bool, filter, map, IfOk, IfSome};
-ghost use Rattle.xq_regions.specs.Items.{item_view, item_views, ItemView, Place as NodeAt};
+ghost use Rattle.xq_trees.specs.Items.{item_view, item_views, ItemView, Place as NodeAt};
 ghost use Rattle.xq_sources.specs.Sources.{tree_at};
 ghost use Rattle.xq_axes.specs.Many.{spot};
 ghost use Rattle.xq_axes.specs.Owners.{has_valued, owns_valued};
@@ -10,8 +10,8 @@ use crate::children::find_near;
 use crate::parents::{in_order, told_parents};
 use std::alloc::Global;
 use xq_atoms::Want;
-use xq_regions::{Item, Items};
 use xq_sources::RowLender;
+use xq_trees::{Item, Items};
 
 /// From how many items on values are asked for: a step from each of fewer is as fast.
 const MANY_ITEMS: usize = 64;

@@ -1,9 +1,9 @@
 //! The parent axis.
 ghost use Rattle.std.specs.Prelude.{◌≡◌, ◌+◌, ◌-◌, ◌≤◌, ◌==◌, ◌||◌, ◌∷◌, ◌⊎◌, ℕ, true, length, slice_get, IfOk, IfSome, OnOk};
-ghost use Rattle.xq_regions.specs.Forest.{count};
-ghost use Rattle.xq_regions.specs.Tree.{nodes};
-ghost use Rattle.xq_regions.specs.declared.Axis.TheVariants as axes;
-ghost use Rattle.xq_regions.specs.Rows.{rows};
+ghost use Rattle.xq_trees.specs.Forest.{count};
+ghost use Rattle.xq_trees.specs.Tree.{nodes};
+ghost use Rattle.xq_trees.specs.declared.Axis.TheVariants as axes;
+ghost use Rattle.xq_trees.specs.Rows.{rows};
 ghost use Rattle.xq_sources.specs.Parents.{AreParents, IsParentRow};
 ghost use Rattle.xq_sources.specs.Sources.{tree_at};
 ghost use Rattle.xq_axes.specs.Scans.{region};

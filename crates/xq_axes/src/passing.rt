@@ -1,9 +1,9 @@
 //! Axes to what is before, after and above the context nodes: preceding, following, ancestor and
 //! ancestor-or-self.
 ghost use Rattle.std.specs.Prelude.{◌≡◌, ◌+◌, ◌-◌, ◌<◌, ◌≤◌, ◌&&◌, ◌||◌, [], nat_lt, length, slice_get, IfOk};
-ghost use Rattle.xq_regions.specs.Forest.{count};
-ghost use Rattle.xq_regions.specs.Tree.{nodes};
-ghost use Rattle.xq_regions.specs.declared.Axis.TheVariants as axes;
+ghost use Rattle.xq_trees.specs.Forest.{count};
+ghost use Rattle.xq_trees.specs.Tree.{nodes};
+ghost use Rattle.xq_trees.specs.declared.Axis.TheVariants as axes;
 ghost use Rattle.xq_axes.specs.Scans.{region};
 ghost use Rattle.xq_sources.specs.Sources.{tree_at};
 ghost use Rattle.xq_axes.specs.Reads.{span, span_end};

@@ -1,7 +1,7 @@
 //! Picking rows by how they stand to context nodes.
 ghost use Rattle.std.specs.Prelude.{◌≡◌, ◌+◌, ◌≤◌, ◌∷◌, [], ◌++◌, ◌&&◌, if◌then◌else◌, ℕ, List, IfOk, OnOk};
-ghost use Rattle.xq_regions.specs.Tree.{Tree};
-ghost use Rattle.xq_regions.specs.declared.Axis.{Axis as AxisLem};
+ghost use Rattle.xq_trees.specs.Tree.{Tree};
+ghost use Rattle.xq_trees.specs.declared.Axis.{Axis as AxisLem};
 ghost use Rattle.xq_sources.specs.Lent.{placed_lent, row_lent};
 ghost use Rattle.xq_axes.specs.Reads.{Span, span_end, IsRowIn};
 ghost use Rattle.xq_axes.specs.private.Hits.{is_hit as is_hit_lem, is_wanted, row_passes, below_where, AreUnhit};

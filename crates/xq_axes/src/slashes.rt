@@ -1,10 +1,10 @@
 //! Steps to children after `//`.
 ghost use Rattle.std.specs.Prelude.{◌≡◌, ◌≤◌, ◌+◌, ◌*◌, ℕ, length, map, IfOk, OnOk};
-ghost use Rattle.xq_regions.specs.declared.Axis.TheVariants.{Descendant};
+ghost use Rattle.xq_trees.specs.declared.Axis.TheVariants.{Descendant};
 ghost use Rattle.xq_sources.specs.Sources.{tree_at};
 ghost use Rattle.xq_meaning.specs.Readings.{node_at};
 ghost use Rattle.xq_axes.specs.DoubleSlash.{after_double_slash, AreAfterDoubleSlash};
-ghost use Rattle.xq_regions.specs.Rising.{AreRising};
+ghost use Rattle.xq_trees.specs.Rising.{AreRising};
 ghost use Rattle.xq_axes.specs.Many.{spot};
 ghost use Rattle.xq_axes.specs.Nodes.{HaveAll};
 ghost use Rattle.xq_axes.specs.Scans.{region, places_of, AreOf};
@@ -15,8 +15,8 @@ use crate::steps::{step, step_in_tree};
 use std::alloc::Global;
 use xq_atoms::Want;
 use xq_meaning::Test;
-use xq_regions::{Axis, Node};
 use xq_sources::RowLender;
+use xq_trees::{Axis, Node};
 
 /// Asks for a row of each tree that the nodes are of: the source promises that it is a tree.
 fn ask_for_trees<L: RowLender>(alloc: Global, source: &mut L, nodes: &[Node]) -> Result<(), Want>

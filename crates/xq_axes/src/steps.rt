@@ -1,16 +1,16 @@
 //! Steps along the axes.
 ghost use Rattle.std.specs.Prelude.{◌≡◌, ◌≤◌, ◌∷◌, ◌++◌, ◌+◌, ◌||◌, [], ℕ, Bool, true, List, length, map, IfOk, OnOk};
 ghost use Rattle.std.specs.List.{flat_map, list_any};
-ghost use Rattle.xq_regions.specs.Forest.{count};
-ghost use Rattle.xq_regions.specs.Tree.{nodes};
-ghost use Rattle.xq_regions.specs.declared.Axis.TheVariants as axes;
-ghost use Rattle.xq_regions.specs.declared.items.Node.{Node as NodeLem};
+ghost use Rattle.xq_trees.specs.Forest.{count};
+ghost use Rattle.xq_trees.specs.Tree.{nodes};
+ghost use Rattle.xq_trees.specs.declared.Axis.TheVariants as axes;
+ghost use Rattle.xq_trees.specs.declared.items.Node.{Node as NodeLem};
 ghost use Rattle.xq_sources.specs.Sources.{tree_at, HasNode};
 ghost use Rattle.xq_meaning.specs.Items.{in_document_order};
 ghost use Rattle.xq_meaning.specs.Steps.{axis_nodes};
 ghost use Rattle.xq_meaning.specs.Readings.{node_at};
-ghost use Rattle.xq_regions.specs.Rising.{AreRising};
-ghost use Rattle.xq_regions.specs.Items.{Place as NodeAt, item_views};
+ghost use Rattle.xq_trees.specs.Rising.{AreRising};
+ghost use Rattle.xq_trees.specs.Items.{Place as NodeAt, item_views};
 ghost use Rattle.xq_axes.specs.Nodes.{HaveAll, AreOnAxis, AreFirstOnAxis, IsLastOnAxis};
 ghost use Rattle.xq_axes.specs.Scans.{region, places_of, AreOf};
 ghost use Rattle.xq_axes.specs.private.Hits.{is_wanted, below_where, IsRising};
@@ -30,8 +30,8 @@ use crate::selves::search_selves;
 use std::alloc::Global;
 use xq_atoms::Want;
 use xq_meaning::Test;
-use xq_regions::{Axis, Item, Items, Node, comes_after, rises};
 use xq_sources::RowLender;
+use xq_trees::{Axis, Item, Items, Node, comes_after, rises};
 
 /// The places of the nodes on the axis from one of the places, which rise, that pass the test.
 fn search<L: RowLender>(

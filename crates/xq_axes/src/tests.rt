@@ -1,6 +1,6 @@
 //! Node tests on rows.
 ghost use Rattle.std.specs.Prelude.{◌≡◌, not};
-ghost use Rattle.xq_regions.specs.Tree.{is_attribute};
+ghost use Rattle.xq_trees.specs.Tree.{is_attribute};
 ghost use Rattle.xq_atoms.specs.Text.{text_eq};
 ghost use Rattle.xq_sources.specs.Lent.{row_lent};
 ghost use Rattle.xq_meaning.specs.Steps.{has_name as has_name_lem};
@@ -8,8 +8,8 @@ ghost use Rattle.xq_axes.specs.private.Hits.{row_passes};
 
 use xq_expressions::Text;
 use xq_meaning::Test;
-use xq_regions::Kind;
 use xq_sources::LentRow;
+use xq_trees::Kind;
 
 /// Whether two names that are as long are the same.
 #[inline(never)]

@@ -1,10 +1,10 @@
 //! The string value of a node.
 ghost use Rattle.std.specs.Prelude.{◌≡◌, ◌+◌, ℕ, string_bytes, IfOk, IfSome, OnOk};
-ghost use Rattle.xq_regions.specs.Node.{below_at};
-ghost use Rattle.xq_regions.specs.Order.{path_at};
-ghost use Rattle.xq_regions.specs.Rows.{rows, row_at};
-ghost use Rattle.xq_regions.specs.Tree.{Tree, nodes};
-ghost use Rattle.xq_regions.specs.Value.{texts, string_value as string_value_lem};
+ghost use Rattle.xq_trees.specs.Node.{below_at};
+ghost use Rattle.xq_trees.specs.Order.{path_at};
+ghost use Rattle.xq_trees.specs.Rows.{rows, row_at};
+ghost use Rattle.xq_trees.specs.Tree.{Tree, nodes};
+ghost use Rattle.xq_trees.specs.Value.{texts, string_value as string_value_lem};
 ghost use Rattle.xq_sources.specs.Sources.{tree_at, HasNode};
 ghost use Rattle.xq_meaning.specs.Items.{tree_below};
 ghost use Rattle.xq_meaning.specs.Readings.{node_at};
@@ -13,8 +13,8 @@ ghost use Rattle.xq_axes.specs.Reads.{Span, AreRowsIn, rows_to, joined_texts, is
 use crate::walks::{Visitor, walk};
 use std::alloc::Global;
 use xq_atoms::Want;
-use xq_regions::{Kind, Node};
 use xq_sources::{LentRow, LentRows, RowLender};
+use xq_trees::{Kind, Node};
 
 /// The texts among the rows, joined.
 #[derive(Drop)]

@@ -1,6 +1,6 @@
 //! Reading the rows of a range in turn.
 ghost use Rattle.std.specs.Prelude.{◌≡◌, ◌+◌, ◌-◌, ◌≤◌, ℕ, length, IfOk, OnOk};
-ghost use Rattle.xq_regions.specs.Tree.{Tree};
+ghost use Rattle.xq_trees.specs.Tree.{Tree};
 ghost use Rattle.xq_sources.specs.Lent.{placed_lent};
 ghost use Rattle.xq_sources.specs.Sources.{tree_at};
 ghost use Rattle.xq_axes.specs.Reads.{Span, span, span_end, IsRowIn, AreRowsIn};

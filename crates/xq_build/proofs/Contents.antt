@@ -5,34 +5,34 @@ use Rattle.std.specs.List.{list_all}
 use Rattle.std.proofs.lemmas.Bool.Decides.{nat_tests}
 use Rattle.std.proofs.lemmas.List.{append-nil, map-append, map_push, map_more}
 use Rattle.std.proofs.lemmas.List.Elements.{filter-append}
-use Rattle.xq_regions.specs.Levels.{flat, sized}
+use Rattle.xq_trees.specs.Levels.{flat, sized}
 use Rattle.xq_atoms.specs.Text.{Text, is_empty}
 use Rattle.xq_atoms.specs.Atom.{Atomic}
 use Rattle.xq_atoms.specs.Cast.{text_of}
-use Rattle.xq_regions.specs.Forest.{Forest, end, node, count, join, tops, EachNode}
-use Rattle.xq_regions.specs.Tree.{Label, Tree, nodes, IsTree, no_label, is_content, may_stand}
-use Rattle.xq_regions.specs.Rows.{Row, rows, row_at, no_row}
-use Rattle.xq_regions.proofs.Injective.{rows-injective}
-use Rattle.xq_regions.proofs.Printed.{leveled, flat-measured}
-use Rattle.xq_regions.proofs.Sized.{sized-tree}
+use Rattle.xq_trees.specs.Forest.{Forest, end, node, count, join, tops, EachNode}
+use Rattle.xq_trees.specs.Tree.{Label, Tree, nodes, IsTree, no_label, is_content, may_stand}
+use Rattle.xq_trees.specs.Rows.{Row, rows, row_at, no_row}
+use Rattle.xq_trees.proofs.Injective.{rows-injective}
+use Rattle.xq_trees.proofs.Printed.{leveled, flat-measured}
+use Rattle.xq_trees.proofs.Sized.{sized-tree}
 use Rattle.xq_meaning.specs.Texts.{joined}
 use Rattle.xq_meaning.specs.Content.{is_text, text_label, copied, run, spaced, flattened_after, flattened, in_front, merged, in_front_unless, is_empty_text, without_empty_texts, is_within_height, copied_as, label}
 use Rattle.xq_meaning.specs.Items.{Item, Node, Atom, tree_below}
 use Rattle.xq_packed.specs.Packed.{row}
 use Rattle.xq_packed.specs.Changes.{moved, with_longer_last, longer as longer_row}
-use Rattle.xq_copies.specs.declared.copies.NodeShape.{NodeShape}
-use Rattle.xq_copies.specs.Leaves.{Leaf, leaves, IsShapeOf}
-use Rattle.xq_regions.specs.Node.{HasPath, label_at, below_at}
-use Rattle.xq_regions.specs.Order.{path_at}
-use Rattle.xq_regions.specs.declared.items.Node.{Node as CodeNode}
-use Rattle.xq_regions.specs.declared.Kind.{Kind}
-use Rattle.xq_regions.specs.declared.Kind.TheVariants.{Document, Element, Attribute, Text as TextKind, Comment, ProcessingInstruction}
-use Rattle.xq_regions.proofs.Paths.{at_place}
+use Rattle.xq_build.specs.declared.node_copies.NodeShape.{NodeShape}
+use Rattle.xq_build.specs.private.Leaves.{Leaf, leaves, IsShapeOf}
+use Rattle.xq_trees.specs.Node.{HasPath, label_at, below_at}
+use Rattle.xq_trees.specs.Order.{path_at}
+use Rattle.xq_trees.specs.declared.items.Node.{Node as CodeNode}
+use Rattle.xq_trees.specs.declared.Kind.{Kind}
+use Rattle.xq_trees.specs.declared.Kind.TheVariants.{Document, Element, Attribute, Text as TextKind, Comment, ProcessingInstruction}
+use Rattle.xq_trees.proofs.Paths.{at_place}
 use Rattle.xq_sources.specs.Sources.{tree_at}
 use Rattle.xq_meaning.specs.Readings.{node_at}
-use Rattle.xq_attributes.specs.Attributes.{labels_if, top_labels}
+use Rattle.xq_build.specs.private.Attributes.{labels_if, top_labels}
 use Rattle.xq_build.specs.private.Content.{so_far, open_text, longer, flattened_with, Childless, is_top_text, glued, put, merged_leaves, may_stand_first, AreApart, is_kept, ends_with_text, HasNamelessEnd, is_loose, are_settled, raised, are_low}
-use Rattle.xq_copies.proofs.Subtrees.{length-leveled}
+use Rattle.xq_build.proofs.Subtrees.{length-leveled}
 
 pub leaves-leveled : (f : Forest Label) → leaves f ≡ leveled 0 f
 leaves-leveled f = flat-measured 0 f

@@ -3,26 +3,26 @@ use Rattle.std.specs.Prelude.{sum_by}
 use Rattle.std.proofs.Common.{◌≡◌, ℕ, ◌+◌, ◌-◌, ◌<◌, ◌≤◌, ◌^◌, min, List, ◌∷◌, length, get_or, drop, map, sym, ◌∙◌, ap, subst, arith}
 use Rattle.std.proofs.lemmas.List.{drop_more}
 use Rattle.std.proofs.lemmas.List.Sums.{sum_by-cons}
-use Rattle.xq_regions.specs.Forest.{count}
-use Rattle.xq_regions.specs.Tree.{Tree, nodes}
-use Rattle.xq_regions.specs.Order.{place_of, path_at}
-use Rattle.xq_regions.specs.Rows.{Row, row_at, rows}
-use Rattle.xq_regions.specs.Items.{item_view}
-use Rattle.xq_regions.specs.declared.NodeRow.{NodeRow}
-use Rattle.xq_regions.specs.declared.items.Node.{Node as Spot}
-use Rattle.xq_regions.specs.declared.items.Item.{Item as Held}
-use Rattle.xq_regions.specs.declared.items.Item.TheVariants.{Node as NodeItem}
-use Rattle.xq_regions.proofs.Paths.{at_place}
-use Rattle.xq_regions.proofs.Regions.{row_at-place_of}
+use Rattle.xq_trees.specs.Forest.{count}
+use Rattle.xq_trees.specs.Tree.{Tree, nodes}
+use Rattle.xq_trees.specs.Order.{place_of, path_at}
+use Rattle.xq_trees.specs.Rows.{Row, row_at, rows}
+use Rattle.xq_trees.specs.Items.{item_view}
+use Rattle.xq_trees.specs.declared.NodeRow.{NodeRow}
+use Rattle.xq_trees.specs.declared.items.Node.{Node as Spot}
+use Rattle.xq_trees.specs.declared.items.Item.{Item as Held}
+use Rattle.xq_trees.specs.declared.items.Item.TheVariants.{Node as NodeItem}
+use Rattle.xq_trees.proofs.Paths.{at_place}
+use Rattle.xq_trees.proofs.Regions.{row_at-place_of}
 use Rattle.xq_sources.specs.Lenders.{IsRun}
 use Rattle.xq_sources.specs.Meters.{Readings, with_rows}
 use Rattle.xq_sources.specs.Sources.{rows_between, tree_at}
 use Rattle.xq_meaning.specs.Items.{Item, tree_below}
 use Rattle.xq_meaning.specs.Readings.{item_at, items_at, node_at}
 use Rattle.xq_build.specs.Reads.{ReadsAtMost, ReadsItems, rows_below, own_rows}
-use Rattle.xq_copies.specs.Leaves.{IsRowOf}
+use Rattle.xq_build.specs.private.Leaves.{IsRowOf}
 use Rattle.xq_build.specs.private.Printing.{ReadsItem}
-use Rattle.xq_copies.proofs.Subtrees.{run_splits}
+use Rattle.xq_build.proofs.Subtrees.{run_splits}
 
 -- # Runs
 

@@ -5,12 +5,12 @@ use Rattle.std.proofs.lemmas.Bool.Decides.{nat_tests}
 use Rattle.xq_atoms.specs.declared.refusals.Code.TheVariants.{ProfLevel, ProfNodes}
 use Rattle.xq_atoms.specs.declared.refusals.Fault.{Fault}
 use Rattle.xq_atoms.specs.declared.refusals.Fault.TheVariants.{Code as OfCode, Want as OfWant}
-use Rattle.xq_regions.specs.Forest.{Forest, count, tops}
-use Rattle.xq_regions.specs.Tree.{Label, Tree, nodes}
+use Rattle.xq_trees.specs.Forest.{Forest, count, tops}
+use Rattle.xq_trees.specs.Tree.{Label, Tree, nodes}
 use Rattle.xq_meaning.specs.Content.{first_fault, is_within_height, within_limits, unless_fault, built}
 use Rattle.xq_atoms.specs.Answers.{GivesUnlessWanting}
-use Rattle.xq_copies.specs.Leaves.{Leaf, leaves}
-use Rattle.xq_attributes.specs.Attributes.{top_labels, fault_from, JudgedAs}
+use Rattle.xq_build.specs.private.Leaves.{Leaf, leaves}
+use Rattle.xq_build.specs.private.Attributes.{top_labels, fault_from, JudgedAs}
 use Rattle.xq_build.specs.private.Content.{raised, are_low}
 use Rattle.xq_build.proofs.Contents.{top_leaves, low_leaves, length-leaves, raised_leaves, leaves-injective}
 

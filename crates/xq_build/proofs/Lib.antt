@@ -6,3 +6,5 @@ pub mod Surpluses
 pub mod Counted
 pub mod Lone
 pub mod Planted
+pub mod Subtrees
+pub mod AttributeJudges

@@ -1,12 +1,12 @@
 -- An element whose content is one atomic value.
 use Rattle.std.proofs.Common.{◌≡◌, List, [], ◌∷◌, map, Ok, refl, sym, ◌∙◌, ap}
 use Rattle.xq_atoms.specs.Text.{Text, is_empty}
-use Rattle.xq_regions.specs.Forest.{end, node}
-use Rattle.xq_regions.specs.Items.{ItemView}
-use Rattle.xq_regions.specs.Levels.{flat}
-use Rattle.xq_regions.specs.Rows.{Row, rows}
-use Rattle.xq_regions.specs.Tree.{Tree}
-use Rattle.xq_regions.specs.declared.Kind.TheVariants as kind
+use Rattle.xq_trees.specs.Forest.{end, node}
+use Rattle.xq_trees.specs.Items.{ItemView}
+use Rattle.xq_trees.specs.Levels.{flat}
+use Rattle.xq_trees.specs.Rows.{Row, rows}
+use Rattle.xq_trees.specs.Tree.{Tree}
+use Rattle.xq_trees.specs.declared.Kind.TheVariants as kind
 use Rattle.xq_meaning.specs.Content.{content, element_tree, built, label, text_label, in_front_unless}
 use Rattle.xq_meaning.specs.Readings.{items_at}
 use Rattle.xq_packed.specs.Packed.{row}

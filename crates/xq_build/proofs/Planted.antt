@@ -6,14 +6,14 @@ use Rattle.std.proofs.lemmas.Bool.{and_parts, false≢true}
 use Rattle.std.proofs.lemmas.Bool.Decides.{nat_tests, same_from_decides}
 use Rattle.std.proofs.lemmas.Slice.Eq.{bytes_eq-Decides}
 use Rattle.xq_atoms.specs.Text.{Text}
-use Rattle.xq_regions.specs.declared.items.Node.{Node as Spot}
-use Rattle.xq_regions.specs.declared.Kind.{Kind}
-use Rattle.xq_regions.specs.declared.Kind.TheVariants as kind
-use Rattle.xq_regions.specs.Forest.{Forest, end, node, count, tops, join, IsWithinHeight}
-use Rattle.xq_regions.specs.Items.{ItemView, Place, Value}
-use Rattle.xq_regions.specs.Order.{path_at}
-use Rattle.xq_regions.specs.Node.{subtree}
-use Rattle.xq_regions.specs.Tree.{Label, Tree, nodes, IsTree, is_attribute, may_stand, may_follow, may_precede, has_text, is_content, attribute_names, most_levels, most_nodes}
+use Rattle.xq_trees.specs.declared.items.Node.{Node as Spot}
+use Rattle.xq_trees.specs.declared.Kind.{Kind}
+use Rattle.xq_trees.specs.declared.Kind.TheVariants as kind
+use Rattle.xq_trees.specs.Forest.{Forest, end, node, count, tops, join, IsWithinHeight}
+use Rattle.xq_trees.specs.Items.{ItemView, Place, Value}
+use Rattle.xq_trees.specs.Order.{path_at}
+use Rattle.xq_trees.specs.Node.{subtree}
+use Rattle.xq_trees.specs.Tree.{Label, Tree, nodes, IsTree, is_attribute, may_stand, may_follow, may_precede, has_text, is_content, attribute_names, most_levels, most_nodes}
 use Rattle.xq_sources.specs.Sources.{tree_at}
 use Rattle.xq_sources.specs.Grafts.{rooted, IsRoot, side_by_side, Grafts}
 use Rattle.xq_meaning.specs.Items.{tree_below}

@@ -7,31 +7,31 @@ use Rattle.std.proofs.lemmas.List.{append-nil, drop_more, length-append}
 use Rattle.std.proofs.lemmas.List.Elements.{filter-append}
 use Rattle.std.proofs.lemmas.List.Folds.{list_any-append}
 use Rattle.xq_atoms.specs.Text.{Text, is_empty}
-use Rattle.xq_regions.specs.Tree.{Label, is_attribute, Tree, nodes, may_stand, is_content}
-use Rattle.xq_regions.specs.declared.Kind.{Kind}
-use Rattle.xq_regions.specs.declared.Kind.TheVariants.{Document, Element, Attribute, Text as TextKind, Comment, ProcessingInstruction}
+use Rattle.xq_trees.specs.Tree.{Label, is_attribute, Tree, nodes, may_stand, is_content}
+use Rattle.xq_trees.specs.declared.Kind.{Kind}
+use Rattle.xq_trees.specs.declared.Kind.TheVariants.{Document, Element, Attribute, Text as TextKind, Comment, ProcessingInstruction}
 use Rattle.xq_meaning.specs.Content.{is_text, attribute_fault, first_fault, or_else, copied, is_within_height, flattened, content}
-use Rattle.xq_regions.specs.Forest.{Forest, end, node, tops, IsWithinHeight, join}
-use Rattle.xq_regions.specs.Node.{HasPath, below_at}
-use Rattle.xq_regions.specs.Order.{path_at, place_of}
-use Rattle.xq_regions.specs.Rows.{Row, rows, row_at}
-use Rattle.xq_regions.specs.declared.items.Node.{Node as CodeNode}
-use Rattle.xq_regions.proofs.Printed.{leveled}
-use Rattle.xq_regions.proofs.Paths.{at_place}
-use Rattle.xq_regions.proofs.Regions.{row_at-place_of}
+use Rattle.xq_trees.specs.Forest.{Forest, end, node, tops, IsWithinHeight, join}
+use Rattle.xq_trees.specs.Node.{HasPath, below_at}
+use Rattle.xq_trees.specs.Order.{path_at, place_of}
+use Rattle.xq_trees.specs.Rows.{Row, rows, row_at}
+use Rattle.xq_trees.specs.declared.items.Node.{Node as CodeNode}
+use Rattle.xq_trees.proofs.Printed.{leveled}
+use Rattle.xq_trees.proofs.Paths.{at_place}
+use Rattle.xq_trees.proofs.Regions.{row_at-place_of}
 use Rattle.xq_sources.specs.Sources.{rows_between, tree_at}
 use Rattle.xq_sources.specs.Lenders.{IsRun}
 use Rattle.xq_atoms.specs.Atom.{Atomic}
 use Rattle.xq_atoms.specs.Cast.{text_of}
 use Rattle.xq_meaning.specs.Items.{Item, Node, Atom, tree_below}
-use Rattle.xq_regions.specs.Items.{item_view}
-use Rattle.xq_regions.specs.declared.items.Item.{Item as CodeItem}
+use Rattle.xq_trees.specs.Items.{item_view}
+use Rattle.xq_trees.specs.declared.items.Item.{Item as CodeItem}
 use Rattle.xq_meaning.specs.Readings.{node_at, item_at, items_at}
-use Rattle.xq_copies.specs.declared.copies.NodeShape.{NodeShape}
-use Rattle.xq_copies.specs.Leaves.{Leaf, leaf, leaves, lowered, leaves_between, IsShapeOf}
-use Rattle.xq_copies.proofs.Subtrees.{run_splits, root_leaves, node_leaves, root_kind}
+use Rattle.xq_build.specs.declared.node_copies.NodeShape.{NodeShape}
+use Rattle.xq_build.specs.private.Leaves.{Leaf, leaf, leaves, lowered, leaves_between, IsShapeOf}
+use Rattle.xq_build.proofs.Subtrees.{run_splits, root_leaves, node_leaves, root_kind}
 use Rattle.xq_build.proofs.Contents.{leaves-leveled, leaves-join, low_leaves, content_at, content_is, tree_content, content_leaves, flattened-with, Childless-join, Childless-open}
-use Rattle.xq_attributes.specs.Attributes.{labels_if, top_labels, fault_from}
+use Rattle.xq_build.specs.private.Attributes.{labels_if, top_labels, fault_from}
 use Rattle.xq_build.specs.private.Content.{is_top_text, glued, put, merged_leaves, is_kept, are_low, open_text, longer, flattened_with, Childless, so_far}
 use Rattle.xq_build.specs.private.Surplus.{is_firm, firm_count, is_late, is_full, is_top_attribute, kept_fault, Alike, StandsFor, copy_of, AreSeen, Shortens, Takes, Flattens}
 

@@ -8,26 +8,26 @@ use Rattle.xq_atoms.specs.declared.refusals.Fault.{Fault}
 use Rattle.xq_atoms.specs.declared.refusals.Fault.TheVariants.{Code as OfCode, Want as OfWant}
 use Rattle.xq_atoms.specs.declared.refusals.Code.{Code}
 use Rattle.xq_atoms.specs.declared.refusals.Code.TheVariants.{ProfReply}
-use Rattle.xq_regions.specs.Print.{print}
+use Rattle.xq_trees.specs.Print.{print}
 use Rattle.xq_atoms.specs.Print.{quoted_character, escaped}
-use Rattle.xq_regions.specs.Printing.{text_from}
-use Rattle.xq_regions.specs.Tree.{Tree}
-use Rattle.xq_regions.specs.declared.NodeRow.{NodeRow}
-use Rattle.xq_regions.proofs.Printed.{text-rows}
-use Rattle.xq_regions.specs.declared.items.Item.{Item as CodeItem}
-use Rattle.xq_regions.specs.Items.{item_view}
+use Rattle.xq_trees.specs.Printing.{text_from}
+use Rattle.xq_trees.specs.Tree.{Tree}
+use Rattle.xq_trees.specs.declared.NodeRow.{NodeRow}
+use Rattle.xq_trees.proofs.Printed.{text-rows}
+use Rattle.xq_trees.specs.declared.items.Item.{Item as CodeItem}
+use Rattle.xq_trees.specs.Items.{item_view}
 use Rattle.xq_meaning.specs.Items.{Item, tree_below}
 use Rattle.xq_meaning.specs.Readings.{item_at, items_at, node_at}
 use Rattle.xq_meaning.specs.Print.{print_item, print_items, within_reply}
-use Rattle.xq_regions.specs.Rows.{Row, no_row, row_of, placed}
-use Rattle.xq_regions.specs.declared.items.Node.{Node as CodeNode}
+use Rattle.xq_trees.specs.Rows.{Row, no_row, row_of, placed}
+use Rattle.xq_trees.specs.declared.items.Node.{Node as CodeNode}
 use Rattle.xq_sources.specs.Lenders.{IsRun}
 use Rattle.xq_sources.specs.Lent.{lent_at}
 use Rattle.xq_sources.specs.Sources.{rows_between, tree_at}
-use Rattle.xq_copies.proofs.Subtrees.{run_splits, whole_leaves}
+use Rattle.xq_build.proofs.Subtrees.{run_splits, whole_leaves}
 use Rattle.std.specs.Prelude.{Result, String, string_bytes, codes, nat_le, Ok, Err}
 use Rattle.xq_atoms.specs.Answers.{GivesUnlessWanting}
-use Rattle.xq_copies.specs.Leaves.{Leaf, leaf, lowered, leaves_between, IsRowOf}
+use Rattle.xq_build.specs.private.Leaves.{Leaf, leaf, lowered, leaves_between, IsRowOf}
 use Rattle.xq_build.specs.private.Writing.{IsTooLong, Appends, each_after_comma, escape_char}
 
 -- a text that is too long stays so

@@ -4,7 +4,7 @@ use Rattle.xq_atoms.specs.Answers.{GivesOr}
 use Rattle.xq_atoms.specs.Judged.{Judged}
 use Rattle.xq_atoms.specs.declared.refusals.Fault.{Fault}
 use Rattle.xq_atoms.specs.declared.refusals.Want.TheVariants.{Memory}
-use Rattle.xq_regions.specs.Tree.{Tree, IsTree}
+use Rattle.xq_trees.specs.Tree.{Tree, IsTree}
 
 -- nothing but memory is wanting where the names and values are such as a tree may have
 abbrev pub GivesTree : Judged Tree → Result Tree Fault → Type 0

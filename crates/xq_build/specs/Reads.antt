@@ -1,7 +1,7 @@
 -- How much is read to print items.
 use Rattle.std.specs.Prelude.{ℕ, ◌+◌, ◌≤◌, List, sum_by}
-use Rattle.xq_regions.specs.Forest.{count}
-use Rattle.xq_regions.specs.Tree.{Tree}
+use Rattle.xq_trees.specs.Forest.{count}
+use Rattle.xq_trees.specs.Tree.{Tree}
 use Rattle.xq_sources.specs.Meters.{Readings}
 use Rattle.xq_meaning.specs.Items.{Item, Node, Atom, tree_below}
 

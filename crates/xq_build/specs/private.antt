@@ -4,3 +4,6 @@ pub mod Judging
 pub mod Content
 pub mod Surplus
 pub mod Lone
+pub mod AttributeJudging
+pub mod Leaves
+pub mod Attributes

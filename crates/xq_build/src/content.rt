@@ -4,11 +4,11 @@ ghost use Rattle.std.specs.Prelude.{◌≡◌, ◌&&◌, ◌++◌, ◌∷◌, []
 ghost use Rattle.std.specs.Option.{option_map};
 ghost use Rattle.xq_atoms.specs.Atom.{atomic_of};
 ghost use Rattle.xq_atoms.specs.Cast.{text_of};
-ghost use Rattle.xq_regions.specs.Items.{item_view};
-ghost use Rattle.xq_regions.specs.Levels.{flat};
+ghost use Rattle.xq_trees.specs.Items.{item_view};
+ghost use Rattle.xq_trees.specs.Levels.{flat};
 ghost use Rattle.xq_meaning.specs.Content.{content as content_lem};
 ghost use Rattle.xq_meaning.specs.Readings.{item_at, items_at};
-ghost use Rattle.xq_copies.specs.Leaves.{Leaf, leaves};
+ghost use Rattle.xq_build.specs.private.Leaves.{Leaf, leaves};
 ghost use Rattle.xq_build.specs.private.Content.{longer, open_text, is_top_text as is_top_text_lem, merged_leaves, AreApart, is_kept as is_kept_lem, is_loose as is_loose_lem, are_settled as are_settled_lem, ends_with_text, HasNamelessEnd};
 ghost use Rattle.xq_build.specs.private.Surplus.{is_full, AreSeen, StandsFor, Takes, Flattens};
 
@@ -18,8 +18,8 @@ use indexmap::IndexSet;
 use std::alloc::Global;
 use xq_atoms::{Atom, Want};
 use xq_packed::{PackedRow, PackedRows};
-use xq_regions::{Item, Kind};
 use xq_sources::RowLender;
+use xq_trees::{Item, Kind};
 
 /// The text of a run of atomic values with another one, after a space.
 fn lengthened(alloc: Global, run: Option<String>, atom: &Atom) -> Result<String, Want>

@@ -1,18 +1,18 @@
 //! Copies of nodes as content.
 ghost use Rattle.std.specs.Prelude.{◌≡◌, ◌++◌, map, OnOk};
-ghost use Rattle.xq_regions.specs.Levels.{flat};
+ghost use Rattle.xq_trees.specs.Levels.{flat};
 ghost use Rattle.xq_meaning.specs.Items.{tree_below};
 ghost use Rattle.xq_meaning.specs.Readings.{node_at};
 ghost use Rattle.xq_meaning.specs.Content.{copied};
-ghost use Rattle.xq_copies.specs.Leaves.{leaves};
+ghost use Rattle.xq_build.specs.private.Leaves.{leaves};
 ghost use Rattle.xq_build.specs.private.Content.{Childless};
 
+use crate::node_copies::{append_below, append_whole, shape_of_node};
 use std::alloc::Global;
 use xq_atoms::Want;
-use xq_copies::{append_below, append_whole, shape_of_node};
 use xq_packed::PackedRows;
-use xq_regions::{Kind, Node};
 use xq_sources::RowLender;
+use xq_trees::{Kind, Node};
 
 /// Adds copies of the node and of all that is below it; of a document, of what is below it alone
 /// (XQuery 3.1, section 3.9.1.3).

@@ -1,6 +1,6 @@
 //! Constructors of elements and documents.
 ghost use Rattle.std.specs.Prelude.{◌≡◌, Ok, map, string_bytes, IfOk, IfSome};
-ghost use Rattle.xq_regions.specs.Items.{item_view};
+ghost use Rattle.xq_trees.specs.Items.{item_view};
 ghost use Rattle.xq_meaning.specs.Content.{element_tree, document_tree};
 ghost use Rattle.xq_meaning.specs.Readings.{items_at};
 ghost use Rattle.xq_atoms.specs.Answers.{GivesUnlessWanting};
@@ -10,10 +10,9 @@ use crate::content::content;
 use crate::judging::built;
 use std::alloc::Global;
 use xq_atoms::{Atom, Fault, Want, cast_str};
-use xq_packed::PackedRows;
-use xq_packed_trees::PackedTree;
-use xq_regions::{Item, Kind};
+use xq_packed::{PackedRows, PackedTree};
 use xq_sources::RowLender;
+use xq_trees::{Item, Kind};
 
 /// The string that is the only item, where it is not empty: it is read where it lies.
 pub fn lone_string(items: &[Item]) -> Option<&str>

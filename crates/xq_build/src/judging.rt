@@ -1,21 +1,20 @@
 //! What is judged of the content of an element or a document, and the tree that it becomes.
 ghost use Rattle.std.specs.Prelude.{◌≡◌, [], map};
-ghost use Rattle.xq_regions.specs.Forest.{Forest};
-ghost use Rattle.xq_regions.specs.Tree.{Label};
-ghost use Rattle.xq_regions.specs.Levels.{flat};
+ghost use Rattle.xq_trees.specs.Forest.{Forest};
+ghost use Rattle.xq_trees.specs.Tree.{Label};
+ghost use Rattle.xq_trees.specs.Levels.{flat};
 ghost use Rattle.xq_meaning.specs.Content.{built as built_lem, label};
-ghost use Rattle.xq_copies.specs.Leaves.{leaf};
+ghost use Rattle.xq_build.specs.private.Leaves.{leaf};
 ghost use Rattle.xq_atoms.specs.Answers.{GivesUnlessWanting};
 ghost use Rattle.xq_build.specs.private.Content.{are_low as are_low_lem};
 ghost use Rattle.xq_build.specs.private.Surplus.{StandsFor};
 
+use crate::attributes::judge_attributes;
 use std::alloc::Global;
 use xq_atoms::{Code, Fault, Want};
-use xq_attributes::judge_attributes;
-use xq_packed::{PackedRow, PackedRows};
-use xq_packed_trees::PackedTree;
-use xq_regions::{Kind, MAX_LEVEL, MAX_NODES};
+use xq_packed::{PackedRow, PackedRows, PackedTree};
 use xq_sources::LentRows;
+use xq_trees::{Kind, MAX_LEVEL, MAX_NODES};
 
 /// Whether no level is over that of the children of the lowest nodes but one.
 fn are_low(rows: &PackedRows) -> bool

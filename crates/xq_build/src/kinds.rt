@@ -1,8 +1,8 @@
 //! What the printed form shows of a node, by its kind.
 ghost use Rattle.std.specs.Prelude.{◌≡◌};
-ghost use Rattle.xq_regions.specs.Print.{word as word_lem, is_named as is_named_lem, is_valued as is_valued_lem};
+ghost use Rattle.xq_trees.specs.Print.{word as word_lem, is_named as is_named_lem, is_valued as is_valued_lem};
 
-use xq_regions::Kind;
+use xq_trees::Kind;
 
 /// What a node of the kind begins with.
 pub fn word(kind: Kind) -> &'static str

@@ -6,9 +6,8 @@ ghost use Rattle.xq_build.specs.Gives.{GivesTree};
 use crate::values::without_leading_space;
 use std::alloc::Global;
 use xq_atoms::{Code, Fault, Want};
-use xq_packed::PackedRows;
-use xq_packed_trees::PackedTree;
-use xq_regions::{Kind, ends_with_dash, holds_an_end, holds_two_dashes};
+use xq_packed::{PackedRows, PackedTree};
+use xq_trees::{Kind, ends_with_dash, holds_an_end, holds_two_dashes};
 
 /// The tree of one node.
 fn lone_node(alloc: Global, kind: Kind, name: &str, value: &str) -> Result<PackedTree, Fault>

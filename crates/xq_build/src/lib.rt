@@ -1,6 +1,7 @@
 //! Constructors of nodes, their content, and the text of a result, over any lender of rows.
 #![tactic(auto)]
 
+mod attributes;
 mod content;
 mod copies;
 mod elements;
@@ -8,6 +9,7 @@ mod judging;
 mod kinds;
 mod leaves;
 mod names;
+mod node_copies;
 mod planting;
 mod printer;
 mod surplus;

@@ -11,7 +11,7 @@ use crate::values::trimmed;
 use std::alloc::Global;
 use xq_atoms::{Atom, Code, Fault, is_name};
 use xq_expressions::NamedNode;
-use xq_regions::is_target;
+use xq_trees::is_target;
 
 /// Whether the text is two names with one colon between them.
 fn is_prefixed(text: &str) -> bool

@@ -1,6 +1,6 @@
 //! Elements and documents that are built where they are kept: no tree is made apart from the others.
 ghost use Rattle.std.specs.Prelude.{◌≡◌, true, false, map, IfOk, OnErr};
-ghost use Rattle.xq_regions.specs.Items.{item_view};
+ghost use Rattle.xq_trees.specs.Items.{item_view};
 ghost use Rattle.xq_meaning.specs.Content.{element_tree, document_tree};
 ghost use Rattle.xq_meaning.specs.Readings.{items_at};
 ghost use Rattle.xq_build.specs.Plants.{Plants};
@@ -8,8 +8,8 @@ ghost use Rattle.xq_build.specs.Plants.{Plants};
 use crate::elements::{lone_string, lone_text};
 use std::alloc::Global;
 use xq_atoms::Want;
-use xq_regions::{Item, Kind};
-use xq_sources::Growing;
+use xq_sources::TreeStore;
+use xq_trees::{Item, Kind};
 
 /// Adds the element that [`element`](crate::element) builds after the other trees, where it can be
 /// built among them, and says whether it did: only where there are no items, one atomic value whose
@@ -17,7 +17,7 @@ use xq_sources::Growing;
 /// are as before.
 ///
 /// The name is one that `name_of` answers.
-pub fn plant_element<W: Growing>(
+pub fn plant_element<W: TreeStore>(
     alloc: Global,
     world: &mut W,
     name: &str,
@@ -39,13 +39,13 @@ pub fn plant_element<W: Growing>(
     if let Some(value) = lone_text(alloc, items)? {
         return world.plant_around(name, value.as_str());
     }
-    world.graft(Kind::Element, name, items)
+    world.append_parent(Kind::Element, name, items)
 }
 
 /// Adds the document that [`document`](crate::document) builds after the other trees, where it can
 /// be built among them, and says whether it did: only where the items are roots of constructed
 /// trees alone. Else, and where it is refused, the trees are as before.
-pub fn plant_document<W: Growing>(world: &mut W, items: &[Item]) -> Result<bool, Want>
+pub fn plant_document<W: TreeStore>(world: &mut W, items: &[Item]) -> Result<bool, Want>
     ensures grown { IfOk result (λ did. did ≡ true → Plants (document_tree
         (W.forest world.old) (items_at (W.forest world.old) (map item_view items.now)))
         (W.forest world.old) (W.forest world.new)) }
@@ -53,5 +53,5 @@ pub fn plant_document<W: Growing>(world: &mut W, items: &[Item]) -> Result<bool,
     ensures kept { OnErr result (W.forest world.new ≡ W.forest world.old) }
     ensures was_clean { W.is_clean world.new → W.is_clean world.old }
 {
-    world.graft(Kind::Document, "", items)
+    world.append_parent(Kind::Document, "", items)
 }

@@ -4,9 +4,9 @@ ghost use Rattle.std.specs.Prelude.{◌≡◌, ◌+◌, ◌-◌, ◌≤◌, ◌�
 ghost use Rattle.std.specs.Char.{encode_utf8};
 ghost use Rattle.xq_atoms.specs.Atom.{atomic_of};
 ghost use Rattle.xq_atoms.specs.Print.{print_atomic, quoted, escaped};
-ghost use Rattle.xq_regions.specs.Items.{item_view};
-ghost use Rattle.xq_regions.specs.Print.{heading, content, opening, print};
-ghost use Rattle.xq_regions.specs.Printing.{closing, between, text_from};
+ghost use Rattle.xq_trees.specs.Items.{item_view};
+ghost use Rattle.xq_trees.specs.Print.{heading, content, opening, print};
+ghost use Rattle.xq_trees.specs.Printing.{closing, between, text_from};
 ghost use Rattle.xq_sources.specs.Lent.{placed_lent, row_lent};
 ghost use Rattle.xq_sources.specs.Sources.{tree_at};
 ghost use Rattle.xq_meaning.specs.Print.{longest_text, print_item, print_items as printed_items, within_reply};
@@ -14,16 +14,16 @@ ghost use Rattle.xq_meaning.specs.Items.{tree_below};
 ghost use Rattle.xq_meaning.specs.Readings.{item_at, items_at, node_at};
 ghost use Rattle.xq_atoms.specs.Answers.{GivesUnlessWanting};
 ghost use Rattle.xq_build.specs.Reads.{ReadsItems};
-ghost use Rattle.xq_copies.specs.Leaves.{leaf, lowered, leaves_between, IsRowOf};
+ghost use Rattle.xq_build.specs.private.Leaves.{leaf, lowered, leaves_between, IsRowOf};
 ghost use Rattle.xq_build.specs.private.Printing.{ReadsItem};
 ghost use Rattle.xq_build.specs.private.Writing.{Appends, GoesOn, each_after_comma, escape_char};
 
 use crate::kinds::{is_named, is_valued, word};
+use crate::node_copies::row_of_node;
 use std::alloc::Global;
 use xq_atoms::{Atom, Code, Fault, Want};
-use xq_copies::row_of_node;
-use xq_regions::{Item, Kind, Node, NodeRow};
 use xq_sources::{LentRow, LentRows, RowLender};
+use xq_trees::{Item, Kind, Node, NodeRow};
 
 /// The greatest length of a reply's text, in bytes.
 const MAX_REPLY: usize = 16_777_216;

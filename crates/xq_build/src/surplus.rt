@@ -2,25 +2,25 @@
 //! then, so what is still to come is looked at, and not copied.
 ghost use Rattle.std.specs.Prelude.{◌≡◌, true, false, map, IfOk, OnOk};
 ghost use Rattle.std.specs.List.{list_any};
-ghost use Rattle.xq_regions.specs.Levels.{flat};
-ghost use Rattle.xq_regions.specs.declared.Kind.TheVariants.{Document, Attribute};
+ghost use Rattle.xq_trees.specs.Levels.{flat};
+ghost use Rattle.xq_trees.specs.declared.Kind.TheVariants.{Document, Attribute};
 ghost use Rattle.xq_sources.specs.Sources.{tree_at};
 ghost use Rattle.xq_meaning.specs.Content.{copied};
 ghost use Rattle.xq_meaning.specs.Items.{tree_below};
 ghost use Rattle.xq_meaning.specs.Readings.{node_at};
-ghost use Rattle.xq_copies.specs.Leaves.{leaves_between, IsShapeOf};
+ghost use Rattle.xq_build.specs.private.Leaves.{leaves_between, IsShapeOf};
 ghost use Rattle.xq_build.specs.private.Content.{are_low as are_low_lem, Childless};
 ghost use Rattle.xq_build.specs.private.Surplus.{firm_count as firm_count_lem, is_late as is_late_lem, is_full as is_full_lem, AreSeen, Shortens};
 
 use crate::content::is_top_text;
 use crate::judging::are_low_lent;
+use crate::node_copies::{NodeShape, append_whole, shape_of_node};
 use indexmap::IndexSet;
 use std::alloc::Global;
 use xq_atoms::Want;
-use xq_copies::{NodeShape, append_whole, shape_of_node};
 use xq_packed::{PackedRow, PackedRows};
-use xq_regions::{Kind, MAX_LEVEL, MAX_NODES, Node};
 use xq_sources::RowLender;
+use xq_trees::{Kind, MAX_LEVEL, MAX_NODES, Node};
 
 /// How many rows stay rows of their own, whatever texts stand beside them.
 fn firm_count(rows: &PackedRows) -> usize

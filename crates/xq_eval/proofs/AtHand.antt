@@ -6,9 +6,9 @@ use Rattle.xq_atoms.specs.declared.refusals.Code.{Code}
 use Rattle.xq_atoms.specs.declared.refusals.Fault.{Fault}
 use Rattle.xq_atoms.specs.declared.refusals.Fault.TheVariants.{Code as OfCode}
 use Rattle.xq_atoms.specs.Atom.{Atomic, Integer, Decimal, atomic_of}
-use Rattle.xq_regions.specs.Items.{ItemView, Value}
-use Rattle.xq_regions.specs.Tree.{Tree}
-use Rattle.xq_regions.specs.Tuples.{value_at}
+use Rattle.xq_trees.specs.Items.{ItemView, Value}
+use Rattle.xq_trees.specs.Tree.{Tree}
+use Rattle.xq_trees.specs.Tuples.{value_at}
 use Rattle.xq_tuples.specs.declared.slots.SlotValue.{SlotValue}
 use Rattle.xq_tuples.specs.Views.{slot_items, values_of}
 use Rattle.xq_meaning.specs.declared.operators.Operator.{Operator}
@@ -22,7 +22,7 @@ use Rattle.xq_meaning.specs.Operators.{operated}
 use Rattle.xq_meaning.specs.PlanMeaning.{Frame, Meaning, plan_mean}
 use Rattle.xq_meaning.specs.Readings.{items_at}
 use Rattle.xq_meaning.proofs.PlanEquations.{plan-Int, plan-Dec, plan-Slot, plan-Chain}
-use Rattle.xq_forms.specs.Views.{tuple_at}
+use Rattle.xq_operators.specs.Views.{tuple_at}
 use Rattle.xq_joins.specs.Atoms.{Tells}
 use Rattle.xq_eval.proofs.Counted.{slot_value}
 use Rattle.xq_eval.proofs.Loops.{left_over}

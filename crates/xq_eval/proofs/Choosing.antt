@@ -8,7 +8,7 @@ use Rattle.std.proofs.lemmas.Cmp.{int_eq_equiv}
 use Rattle.std.proofs.lemmas.List.{append-nil}
 use Rattle.xq_atoms.specs.Atom.{Integer}
 use Rattle.xq_expressions.specs.declared.signatures.Function.TheVariants.{Last}
-use Rattle.xq_regions.specs.Tree.{Tree}
+use Rattle.xq_trees.specs.Tree.{Tree}
 use Rattle.xq_meaning.specs.declared.plans.Plan.{Plan}
 use Rattle.xq_meaning.specs.declared.plans.Plan.TheVariants as plan
 use Rattle.xq_meaning.specs.Arguments.{atomic}

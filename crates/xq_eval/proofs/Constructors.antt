@@ -8,13 +8,13 @@ use Rattle.xq_atoms.specs.Answers.{GivesOr}
 use Rattle.xq_atoms.specs.Atom.{String}
 use Rattle.xq_atoms.specs.Text.{Text}
 use Rattle.xq_expressions.specs.declared.operators.NamedNode.{NamedNode}
-use Rattle.xq_regions.specs.declared.items.Node.{Node}
-use Rattle.xq_regions.specs.Items.{ItemView, Place}
-use Rattle.xq_regions.specs.Tree.{Tree}
+use Rattle.xq_trees.specs.declared.items.Node.{Node}
+use Rattle.xq_trees.specs.Items.{ItemView, Place}
+use Rattle.xq_trees.specs.Tree.{Tree}
 use Rattle.xq_meaning.specs.Content.{name_of}
 use Rattle.xq_meaning.specs.Doing.{Doing, Outcome, go_on, judged}
 use Rattle.xq_meaning.specs.Items.{Item}
-use Rattle.xq_forms.specs.Views.{GivesAs, GivesNode}
+use Rattle.xq_operators.specs.Views.{GivesAs, GivesNode}
 
 -- the node alone, as what a list of items holds
 abbrev pub one_node : Node → List ItemView

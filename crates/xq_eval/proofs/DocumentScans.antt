@@ -5,11 +5,11 @@ use Rattle.std.specs.List.{AllByRecursion}
 use Rattle.std.proofs.Math.Nat.{add-mul, mul-le-mul_right}
 use Rattle.xq_atoms.specs.Atom.{Atomic, String}
 use Rattle.xq_atoms.specs.Text.{Text, text_eq}
-use Rattle.xq_regions.specs.declared.Axis.{Axis}
-use Rattle.xq_regions.specs.Forest.{count}
-use Rattle.xq_regions.specs.Items.{ItemView, Place as NodeAt, Value}
-use Rattle.xq_regions.specs.Tree.{Tree, nodes}
-use Rattle.xq_regions.specs.Tuples.{Tuple}
+use Rattle.xq_trees.specs.declared.Axis.{Axis}
+use Rattle.xq_trees.specs.Forest.{count}
+use Rattle.xq_trees.specs.Items.{ItemView, Place as NodeAt, Value}
+use Rattle.xq_trees.specs.Tree.{Tree, nodes}
+use Rattle.xq_trees.specs.Tuples.{Tuple}
 use Rattle.xq_sources.specs.Meters.{Readings}
 use Rattle.xq_expressions.specs.declared.signatures.Function.{Function}
 use Rattle.xq_expressions.specs.declared.signatures.Function.TheVariants.{Doc}
@@ -27,9 +27,9 @@ use Rattle.xq_meaning.specs.Doing.{Outcome, in_turn, one_more}
 use Rattle.xq_meaning.specs.PlanMeaning.{Frame, Meaning, plan_mean}
 use Rattle.xq_meaning.specs.Forms as Forms
 use Rattle.xq_meaning.proofs.PlanEquations.{plan-Call, plan-Str}
-use Rattle.xq_forms.specs.Reads.{rows_of, IsAtom, AreOf, HasGrown}
-use Rattle.xq_forms.specs.Views.{tuple_at}
-use Rattle.xq_forms.proofs.Growth.{tree_grown}
+use Rattle.xq_operators.specs.Reads.{rows_of, IsAtom, AreOf, HasGrown}
+use Rattle.xq_operators.specs.Views.{tuple_at}
+use Rattle.xq_operators.proofs.Growth.{tree_grown}
 use Rattle.xq_eval.specs.Reads.{path_of_scans, rows_at}
 use Rattle.xq_eval.specs.private.Scanning.{IsLiteral, IsDocument, IsScan, Scans}
 use Rattle.xq_eval.proofs.Loops.{got_at}

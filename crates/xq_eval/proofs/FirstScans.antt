@@ -3,19 +3,19 @@ use Rattle.std.proofs.Common.{◌≡◌, ℕ, zero, suc, ◌-◌, ◌*◌, ◌�
 use Rattle.std.specs.List.{AllByRecursion}
 use Rattle.std.proofs.lemmas.List.{length-drop, take_all}
 use denote.Param.Weighed.{most}
-use Rattle.xq_regions.specs.declared.items.Node.{Node as Spot}
-use Rattle.xq_regions.specs.Items.{ItemView, Place as NodeAt}
-use Rattle.xq_regions.specs.Tree.{Tree}
+use Rattle.xq_trees.specs.declared.items.Node.{Node as Spot}
+use Rattle.xq_trees.specs.Items.{ItemView, Place as NodeAt}
+use Rattle.xq_trees.specs.Tree.{Tree}
 use Rattle.xq_sources.specs.Meters.{Readings}
 use Rattle.xq_sources.specs.Sources.{HasNode}
 use Rattle.xq_meaning.specs.declared.plans.PlanStep.{PlanStep}
 use Rattle.xq_meaning.specs.Doing.{in_turn}
 use Rattle.xq_meaning.specs.PlanMeaning.{Frame, plan_step_mean, next_step}
 use Rattle.xq_meaning.specs.Readings.{items_at, AreIn}
-use Rattle.xq_forms.specs.Reads.{rows_of, AreOf, HasGrown}
-use Rattle.xq_forms.specs.Runs.{ScansGive}
-use Rattle.xq_forms.proofs.OneTree.{of_in}
-use Rattle.xq_forms.proofs.Scanning.{go_on_scans, scans_read}
+use Rattle.xq_operators.specs.Reads.{rows_of, AreOf, HasGrown}
+use Rattle.xq_operators.specs.Runs.{ScansGive}
+use Rattle.xq_operators.proofs.OneTree.{of_in}
+use Rattle.xq_operators.proofs.Scanning.{go_on_scans, scans_read}
 
 -- # What is left of a list
 

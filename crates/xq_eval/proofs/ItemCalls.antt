@@ -7,8 +7,8 @@ use Rattle.xq_atoms.specs.declared.refusals.Fault.TheVariants.{Code as OfCode, W
 use Rattle.xq_atoms.specs.Atom.{atomic_of}
 use Rattle.xq_expressions.specs.declared.signatures.Function.{Function}
 use Rattle.xq_expressions.specs.declared.signatures.Function.TheVariants.{String as OfString, Data as OfData}
-use Rattle.xq_regions.specs.Items.{ItemView, Value}
-use Rattle.xq_regions.specs.Tree.{Tree}
+use Rattle.xq_trees.specs.Items.{ItemView, Value}
+use Rattle.xq_trees.specs.Tree.{Tree}
 use Rattle.xq_functions.specs.Answers.{TellsAtom}
 use Rattle.xq_meaning.specs.declared.plans.Plan.{Plan}
 use Rattle.xq_meaning.specs.declared.plans.Plan.TheVariants as plan
@@ -20,7 +20,7 @@ use Rattle.xq_meaning.specs.Items.{Item}
 use Rattle.xq_meaning.specs.PlanMeaning.{Frame, Meaning, plan_mean}
 use Rattle.xq_meaning.specs.Readings.{items_at, AreIn}
 use Rattle.xq_meaning.proofs.PlanEquations.{plan-Call, plan-ContextItem}
-use Rattle.xq_forms.specs.Views.{GivesSequence}
+use Rattle.xq_operators.specs.Views.{GivesSequence}
 use Rattle.xq_eval.specs.private.Told.{CallsOnItem}
 use Rattle.xq_eval.proofs.Loops.{stops}
 use Rattle.xq_eval.proofs.Steps.{more_next}

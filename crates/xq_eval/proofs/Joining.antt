@@ -7,10 +7,10 @@ use Rattle.xq_atoms.specs.declared.refusals.Code.{Code}
 use Rattle.xq_atoms.specs.declared.refusals.Fault.{Fault}
 use Rattle.xq_atoms.specs.declared.refusals.Fault.TheVariants.{Code as OfCode, Want as OfWant}
 use Rattle.xq_expressions.specs.declared.operators.AllowingEmpty.{AllowingEmpty}
-use Rattle.xq_regions.specs.declared.items.Item.{Item as Held}
-use Rattle.xq_regions.specs.Items.{ItemView, Value}
-use Rattle.xq_regions.specs.Tree.{Tree}
-use Rattle.xq_regions.specs.Tuples.{Tuple, expanded}
+use Rattle.xq_trees.specs.declared.items.Item.{Item as Held}
+use Rattle.xq_trees.specs.Items.{ItemView, Value}
+use Rattle.xq_trees.specs.Tree.{Tree}
+use Rattle.xq_trees.specs.Tuples.{Tuple, expanded}
 use Rattle.xq_meaning.specs.declared.plans.Plan.{Plan}
 use Rattle.xq_meaning.specs.declared.plans.PlanClause.{PlanClause}
 use Rattle.xq_meaning.specs.declared.plans.PlanClause.TheVariants as clause
@@ -20,7 +20,7 @@ use Rattle.xq_meaning.specs.Items.{Item, Atom}
 use Rattle.xq_meaning.specs.PlanMeaning.{Frame, ClauseMeaning, at_tuple, plan_mean, plan_clause_mean}
 use Rattle.xq_meaning.specs.Readings.{items_at, AreIn}
 use Rattle.xq_meaning.proofs.PlanEquations.{clause-For}
-use Rattle.xq_forms.specs.Views.{tuple_at, tuples_at, lists_of, TuplesIn, GivesSequence, GivesTuples}
+use Rattle.xq_operators.specs.Views.{tuple_at, tuples_at, lists_of, TuplesIn, GivesSequence, GivesTuples}
 use Rattle.xq_joins.specs.declared.joins.Join.{Join}
 use Rattle.xq_joins.specs.Joins.{AreJoin, first_of, all_matched}
 use Rattle.xq_joins.specs.Keys.{IsNode}

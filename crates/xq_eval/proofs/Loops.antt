@@ -5,11 +5,11 @@ use Rattle.std.proofs.lemmas.Option.{none-some, same_Some}
 use Rattle.std.proofs.Math.Seq.{drop-cons}
 use Rattle.xq_atoms.specs.declared.refusals.Fault.{Fault}
 use Rattle.xq_atoms.specs.declared.refusals.Fault.TheVariants.{Code as OfCode, Want as OfWant}
-use Rattle.xq_regions.specs.Tree.{Tree}
+use Rattle.xq_trees.specs.Tree.{Tree}
 use Rattle.xq_atoms.specs.declared.refusals.Code.{Code}
 use Rattle.xq_atoms.specs.Judged.{Judged}
 use Rattle.xq_meaning.specs.Doing.{Doing, Outcome, go_on, in_turn, first_that, unless_found}
-use Rattle.xq_forms.specs.Views.{GivesAs}
+use Rattle.xq_operators.specs.Views.{GivesAs}
 use Rattle.xq_eval.specs.private.Results.{GivesPlain}
 
 -- what is left of a list begins with its element at the index

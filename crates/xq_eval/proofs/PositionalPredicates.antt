@@ -10,9 +10,9 @@ use Rattle.xq_atoms.specs.Judged.{◌>>=◌}
 use Rattle.xq_expressions.specs.declared.operators.ComparisonOperator.TheVariants as comparing
 use Rattle.xq_expressions.specs.declared.operators.Relation.{Relation}
 use Rattle.xq_expressions.specs.declared.signatures.Function.TheVariants.{Last, Position}
-use Rattle.xq_regions.specs.declared.items.Item.{Item as Held}
-use Rattle.xq_regions.specs.Items.{ItemView, Value, item_view, item_views}
-use Rattle.xq_regions.specs.Tree.{Tree}
+use Rattle.xq_trees.specs.declared.items.Item.{Item as Held}
+use Rattle.xq_trees.specs.Items.{ItemView, Value, item_view, item_views}
+use Rattle.xq_trees.specs.Tree.{Tree}
 use Rattle.xq_meaning.specs.declared.plans.Plan.{Plan}
 use Rattle.xq_meaning.specs.declared.plans.Plan.TheVariants as plan
 use Rattle.xq_meaning.specs.declared.operators.Operator.TheVariants as operator
@@ -26,7 +26,7 @@ use Rattle.xq_meaning.specs.PlanMeaning.{Frame, Meaning, plan_mean}
 use Rattle.xq_meaning.specs.Readings.{item_at, items_at, IsIn, AreIn}
 use Rattle.xq_meaning.specs.Steps.{focuses_from}
 use Rattle.xq_meaning.proofs.PlanEquations.{plan-Int, plan-Call, plan-Chain}
-use Rattle.xq_forms.proofs.Growth.{extends_itself}
+use Rattle.xq_operators.proofs.Growth.{extends_itself}
 use Rattle.xq_eval.specs.declared.positions.ByPosition.{ByPosition}
 use Rattle.xq_eval.specs.declared.positions.ByPosition.TheVariants.{Same, Compared}
 use Rattle.xq_eval.specs.private.Positions.{IsPositional, IsPositionalIn, value_there}

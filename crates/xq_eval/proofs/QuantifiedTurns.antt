@@ -5,16 +5,16 @@ use Rattle.std.specs.Prelude.{IsErrAnd}
 use Rattle.std.specs.Global.{Vec, Global}
 use Rattle.std.specs.declared.rc.Rc.{Rc}
 use Rattle.std.proofs.lemmas.Bool.{cases_lt}
-use Rattle.xq_regions.specs.declared.items.Item.{Item as HeldItem}
+use Rattle.xq_trees.specs.declared.items.Item.{Item as HeldItem}
 use Rattle.xq_tuples.specs.Views.{values_of}
-use Rattle.xq_regions.specs.Items.{item_views, ItemView}
-use Rattle.xq_forms.specs.declared.frames.Frame.{Frame as Held}
+use Rattle.xq_trees.specs.Items.{item_views, ItemView}
+use Rattle.xq_operators.specs.declared.contexts.EvalContext.{EvalContext as Held}
 use Rattle.std.proofs.lemmas.List.{append-nil, length-append, length-map, map-append}
 use Rattle.xq_atoms.specs.declared.refusals.Code.{Code}
 use Rattle.xq_atoms.specs.declared.refusals.Fault.{Fault}
 use Rattle.xq_atoms.specs.declared.refusals.Fault.TheVariants.{Code as OfCode, Want as OfWant}
-use Rattle.xq_regions.specs.Tree.{Tree}
-use Rattle.xq_regions.specs.Tuples.{Tuple}
+use Rattle.xq_trees.specs.Tree.{Tree}
+use Rattle.xq_trees.specs.Tuples.{Tuple}
 use Rattle.xq_meaning.specs.Items.{Item}
 use Rattle.xq_meaning.specs.Readings.{item_at, items_at, IsIn, AreIn, Extends}
 use Rattle.xq_meaning.specs.Doing.{Doing, Outcome, go_on, first_that}
@@ -22,10 +22,10 @@ use Rattle.xq_meaning.specs.Forms as Forms
 use Rattle.xq_meaning.specs.declared.plans.Plan.{Plan}
 use Rattle.xq_meaning.specs.PlanMeaning.{Frame, Meaning, plan_mean}
 use Rattle.xq_joins.specs.Keyed.{first_with}
-use Rattle.xq_forms.specs.Views.{tuple_at, focus_at, frame_at, TupleIn, FocusIn, FrameIn, GivesAs}
+use Rattle.xq_operators.specs.Views.{tuple_at, focus_at, frame_at, TupleIn, FocusIn, FrameIn, GivesAs}
 use Rattle.xq_eval.specs.private.Results.{GivesPlain}
-use Rattle.xq_forms.proofs.Growth.{tuple_grown, tuple_in_grown}
-use Rattle.xq_regions.proofs.Lists.{all_append}
+use Rattle.xq_operators.proofs.Growth.{tuple_grown, tuple_in_grown}
+use Rattle.xq_trees.proofs.Lists.{all_append}
 use Rattle.xq_eval.specs.private.Bindings.{Falls, stays, falls, Moved}
 use Rattle.xq_eval.specs.private.Quantifying.{opened_at, at_top, holds, tried, resumed, weigh, all_weigh, some_weigh}
 use Rattle.xq_eval.specs.private.Turns.{values_found, IsTurn, GivesTurn, Leaves}

@@ -2,9 +2,9 @@
 use Rattle.std.proofs.Common.{◌≡◌, ℕ, zero, suc, ◌+◌, ◌-◌, ◌*◌, ◌<◌, ◌≤◌, ◌++◌, List, [], ◌∷◌, map, take, drop, length, refl, sym, ◌∙◌, ap, subst, arith, Ok, Err, Bool, true, false, not}
 use Rattle.std.proofs.lemmas.List.{append-nil, length-append, length-map, length-drop, map-append, drop-map}
 use Rattle.xq_atoms.specs.declared.refusals.Code.{Code}
-use Rattle.xq_regions.specs.Tree.{Tree}
-use Rattle.xq_regions.specs.Items.{ItemView}
-use Rattle.xq_regions.specs.Tuples.{Tuple}
+use Rattle.xq_trees.specs.Tree.{Tree}
+use Rattle.xq_trees.specs.Items.{ItemView}
+use Rattle.xq_trees.specs.Tuples.{Tuple}
 use Rattle.xq_meaning.specs.Items.{Item}
 use Rattle.xq_meaning.specs.Doing.{Doing, go_on, unless_found}
 use Rattle.std.proofs.Math.Nat.{mul-lt-mul_of_pos_right}

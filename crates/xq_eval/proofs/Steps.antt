@@ -9,11 +9,11 @@ use Rattle.xq_atoms.specs.declared.refusals.Code.{Code}
 use Rattle.xq_atoms.specs.declared.refusals.Code.TheVariants.{XPTY0019}
 use Rattle.xq_atoms.specs.declared.refusals.Fault.{Fault}
 use Rattle.xq_atoms.specs.declared.refusals.Fault.TheVariants.{Code as OfCode, Want as OfWant}
-use Rattle.xq_regions.specs.declared.items.Item.{Item as Held}
-use Rattle.xq_regions.specs.Tree.{Tree}
-use Rattle.xq_regions.specs.Tuples.{Tuple, item_values, empty_values, with_items, expanded, numbered, bound, satisfying}
+use Rattle.xq_trees.specs.declared.items.Item.{Item as Held}
+use Rattle.xq_trees.specs.Tree.{Tree}
+use Rattle.xq_trees.specs.Tuples.{Tuple, item_values, empty_values, with_items, expanded, numbered, bound, satisfying}
 use Rattle.xq_tuples.specs.Views.{values_of}
-use Rattle.xq_regions.specs.Items.{ItemView, Value, item_view}
+use Rattle.xq_trees.specs.Items.{ItemView, Value, item_view}
 use Rattle.xq_atoms.specs.Atom.{Integer}
 use Rattle.xq_atoms.specs.Judged.{Judged, ◌>>=◌ as ◌>>>=◌}
 use Rattle.xq_meaning.specs.Items.{Place, Item, Node, atomized}
@@ -24,8 +24,8 @@ use Rattle.xq_meaning.specs.Steps.{focuses, focuses_from, in_axis_order, is_reve
 use Rattle.xq_meaning.specs.Content.{name_of}
 use Rattle.xq_meaning.specs.declared.node_tests.Test.{Test}
 use Rattle.xq_meaning.specs.declared.node_tests.Test.TheVariants.{Any}
-use Rattle.xq_regions.specs.declared.Axis.{Axis}
-use Rattle.xq_regions.specs.declared.Axis.TheVariants.{Child, DescendantOrSelf}
+use Rattle.xq_trees.specs.declared.Axis.{Axis}
+use Rattle.xq_trees.specs.declared.Axis.TheVariants.{Child, DescendantOrSelf}
 use Rattle.xq_expressions.specs.declared.operators.NamedNode.{NamedNode}
 use Rattle.xq_meaning.specs.Readings.{item_at, items_at, IsIn, AreIn, Extends}
 use Rattle.xq_meaning.specs.Doing.{Doing, Outcome, go_on, ◌>>=◌, give, judged, on_trees, in_turn, more, one_more, collected}
@@ -38,12 +38,12 @@ use Rattle.xq_meaning.proofs.PlanGrowth.{plan_grows}
 use Rattle.xq_meaning.specs.declared.plans.PlanStep.{PlanStep}
 use Rattle.xq_meaning.specs.declared.plans.PlanStep.TheVariants as plan_step
 use Rattle.xq_meaning.proofs.PlanEquations.{plan-Step, step-Each, step-Scan}
-use Rattle.xq_forms.specs.declared.frames.Frame.{Frame as Held_frame}
-use Rattle.xq_forms.specs.Views.{tuple_at, focus_at, frame_at, TupleIn, TuplesIn, FocusIn, FrameIn, Goes, GivesAs, forget, on_axis, after_double_slash, parents_below, plant_named}
+use Rattle.xq_operators.specs.declared.contexts.EvalContext.{EvalContext as Held_frame}
+use Rattle.xq_operators.specs.Views.{tuple_at, focus_at, frame_at, TupleIn, TuplesIn, FocusIn, FrameIn, Goes, GivesAs, forget, on_axis, after_double_slash, parents_below, plant_named}
 use Rattle.xq_eval.proofs.Loops.{stops}
-use Rattle.xq_forms.proofs.ParentsBelow.{parents_suffice}
-use Rattle.xq_forms.proofs.Growth.{items_grown, are_in_grown, tuple_grown, tuple_in_grown, item_at_grown, in_grown}
-use Rattle.xq_regions.proofs.Lists.{all_append, all_reverse, map_reverse}
+use Rattle.xq_operators.proofs.ParentsBelow.{parents_suffice}
+use Rattle.xq_operators.proofs.Growth.{items_grown, are_in_grown, tuple_grown, tuple_in_grown, item_at_grown, in_grown}
+use Rattle.xq_trees.proofs.Lists.{all_append, all_reverse, map_reverse}
 
 -- the results of one more, at the end of those so far
 pub more_next : {A : Type 0} (act : A → Doing (List Item)) (done added done' : List ItemView) (x : A) (f f' : List Tree) → Extends f f' → AreIn f done

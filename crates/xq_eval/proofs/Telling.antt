@@ -4,9 +4,9 @@ use Rattle.xq_atoms.specs.declared.atoms.Atom.{Atom}
 use Rattle.xq_atoms.specs.declared.refusals.Fault.{Fault}
 use Rattle.xq_atoms.specs.declared.refusals.Fault.TheVariants.{Code as OfCode, Want as OfWant}
 use Rattle.xq_atoms.specs.Atom.{Atomic, atomic_of}
-use Rattle.xq_regions.specs.Tree.{Tree}
+use Rattle.xq_trees.specs.Tree.{Tree}
 use Rattle.xq_meaning.specs.Doing.{Outcome}
-use Rattle.xq_forms.specs.Views.{GivesAs}
+use Rattle.xq_operators.specs.Views.{GivesAs}
 use Rattle.xq_joins.specs.Atoms.{Tells}
 
 module _ {B R S : Type 0} (make : Atomic → B) (view : R → S) (read : List Tree → S → B) (In : List Tree → S → Type 0) (outcome : Outcome B) (f f' : List Tree) where

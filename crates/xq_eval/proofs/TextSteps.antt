@@ -6,13 +6,13 @@ use Rattle.std.specs.List.{AllByRecursion, flat_map}
 use Rattle.xq_atoms.specs.declared.refusals.Code.TheVariants.{XPTY0019}
 use Rattle.xq_atoms.specs.declared.refusals.Fault.{Fault}
 use Rattle.xq_atoms.specs.Judged.{Judged}
-use Rattle.xq_regions.specs.declared.items.Item.{Item as Held}
-use Rattle.xq_regions.specs.declared.Axis.{Axis}
-use Rattle.xq_regions.specs.declared.Axis.TheVariants.{Child, DescendantOrSelf}
-use Rattle.xq_regions.specs.Items.{ItemView, Place as NodeAt, Value}
-use Rattle.xq_regions.specs.Tree.{Tree}
-use Rattle.xq_regions.specs.Tuples.{Tuple}
-use Rattle.xq_regions.proofs.Lists.{all_filter}
+use Rattle.xq_trees.specs.declared.items.Item.{Item as Held}
+use Rattle.xq_trees.specs.declared.Axis.{Axis}
+use Rattle.xq_trees.specs.declared.Axis.TheVariants.{Child, DescendantOrSelf}
+use Rattle.xq_trees.specs.Items.{ItemView, Place as NodeAt, Value}
+use Rattle.xq_trees.specs.Tree.{Tree}
+use Rattle.xq_trees.specs.Tuples.{Tuple}
+use Rattle.xq_trees.proofs.Lists.{all_filter}
 use Rattle.xq_meaning.specs.declared.node_tests.Test.{Test}
 use Rattle.xq_meaning.specs.declared.node_tests.Test.TheVariants.{Any}
 use Rattle.xq_meaning.specs.declared.plans.Plan.{Plan}
@@ -28,7 +28,7 @@ use Rattle.xq_meaning.specs.PlanMeaning.{Frame, Meaning, StepMeaning, plan_mean,
 use Rattle.xq_meaning.specs.Readings.{items_at, IsIn, AreIn}
 use Rattle.xq_meaning.specs.Steps.{axis_nodes}
 use Rattle.xq_meaning.proofs.PlanEquations.{plan-Step, step-Each, step-Scan}
-use Rattle.xq_forms.specs.Views.{tuple_at, after_double_slash, GivesSequence}
+use Rattle.xq_operators.specs.Views.{tuple_at, after_double_slash, GivesSequence}
 use Rattle.xq_joins.specs.declared.equalities.TextTest.{TextTest}
 use Rattle.xq_joins.specs.declared.keyed.KeyedTest.{KeyedTest}
 use Rattle.xq_joins.specs.Equalities.{leads_to_text, on_nodes, Asks, IsTextTestIn}

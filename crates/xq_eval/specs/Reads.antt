@@ -1,16 +1,16 @@
 -- How much of a document a query reads that scans it.
 use Rattle.std.specs.Prelude.{ℕ, ◌≡◌, ◌*◌, List, [], ◌∷◌, map, length, if◌then◌else◌}
 use Rattle.xq_atoms.specs.Text.{Text, text_eq}
-use Rattle.xq_regions.specs.declared.Axis.{Axis}
-use Rattle.xq_regions.specs.Forest.{count}
-use Rattle.xq_regions.specs.Tree.{Tree, nodes}
+use Rattle.xq_trees.specs.declared.Axis.{Axis}
+use Rattle.xq_trees.specs.Forest.{count}
+use Rattle.xq_trees.specs.Tree.{Tree, nodes}
 use Rattle.xq_sources.specs.Meters.{Readings}
 use Rattle.xq_expressions.specs.declared.signatures.Function.TheVariants.{Doc}
 use Rattle.xq_meaning.specs.declared.node_tests.Test.{Test}
 use Rattle.xq_meaning.specs.declared.plans.Plan.{Plan}
 use Rattle.xq_meaning.specs.declared.plans.Plan.TheVariants as plan
 use Rattle.xq_meaning.specs.declared.plans.PlanStep.TheVariants as step
-use Rattle.xq_forms.specs.Reads.{HasGrown}
+use Rattle.xq_operators.specs.Reads.{HasGrown}
 
 -- `doc("A")`, and then as many scans, each after a slash
 abbrev pub path_of_scans : Text → List (Axis × Test) → Plan

@@ -3,14 +3,14 @@
 ghost use Rattle.std.specs.Prelude.{◌≡◌, ◌+◌, ◌<◌, ◌∷◌, [], List, map, true, Ok, IfOk, IfSome};
 ghost use Rattle.std.specs.List.{AllByRecursion};
 ghost use Rattle.xq_atoms.specs.Atom.{atomic_of};
-ghost use Rattle.xq_regions.specs.Items.{Value, item_view};
-ghost use Rattle.xq_regions.specs.Tree.{Tree};
-ghost use Rattle.xq_regions.specs.Tuples.{value_at};
+ghost use Rattle.xq_trees.specs.Items.{Value, item_view};
+ghost use Rattle.xq_trees.specs.Tree.{Tree};
+ghost use Rattle.xq_trees.specs.Tuples.{value_at};
 ghost use Rattle.xq_tuples.specs.Views.{values_of};
 ghost use Rattle.xq_meaning.specs.Arguments.{atomic};
 ghost use Rattle.xq_meaning.specs.Forms as Forms;
 ghost use Rattle.xq_meaning.specs.PlanMeaning.{Frame as Meant, plan_mean};
-ghost use Rattle.xq_forms.specs.Views.{tuple_at};
+ghost use Rattle.xq_operators.specs.Views.{tuple_at};
 ghost use Rattle.xq_joins.specs.Atoms.{Tells};
 ghost use Rattle.xq_eval.specs.private.AtHand.{Gives, IsConstant, IsPosition};
 
@@ -20,14 +20,14 @@ use crate::numbers::number_of_chain;
 use std::alloc::Global;
 use xq_atoms::{Atom, Fault, Want};
 use xq_meaning::Plan;
-use xq_regions::Item;
+use xq_trees::Item;
 use xq_tuples::SlotValue;
 
 /// The atom that a plan gives, where it is a literal, a variable that is one atom, arithmetic on
 /// numbers at hand, a call of `concat` with such parts, or the one of several literals whose
 /// position is such a number; `None` for another plan. A code is that of the plan, and
 /// `Want::Memory` tells that there was no room for a text.
-pub fn atom_at_hand(alloc: Global, slots: &[SlotValue], plan: &Plan) -> Result<Option<Atom>, Fault>
+pub fn cheap_atom(alloc: Global, slots: &[SlotValue], plan: &Plan) -> Result<Option<Atom>, Fault>
     ensures { (trees : List Tree) (frame : Meant)
         → frame.env ≡ tuple_at trees (values_of slots.now)
         → Tells atomic (plan_mean plan.now frame trees) trees result }

@@ -1,6 +1,6 @@
 //! The variables of a quantified expression that have a value, the last one last.
 ghost use Rattle.std.specs.Prelude.{◌≡◌, ◌+◌, ◌<◌, ◌≤◌, ◌++◌, ◌∷◌, [], take, drop, length, vec_len, IfOk, IfSome, IfNone};
-ghost use Rattle.xq_regions.specs.Items.{item_views};
+ghost use Rattle.xq_trees.specs.Items.{item_views};
 ghost use Rattle.xq_tuples.specs.Views.{values_of};
 ghost use Rattle.xq_eval.specs.private.Bindings.{stack_of, Falls, MovesOn};
 
@@ -8,7 +8,7 @@ use crate::variables::Variable;
 use std::alloc::Global;
 use std::rc::Rc;
 use xq_atoms::Want;
-use xq_regions::Items;
+use xq_trees::Items;
 use xq_tuples::SlotValue;
 
 /// What the next value is taken from, and its place there: these items, or where there are none,

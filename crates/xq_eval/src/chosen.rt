@@ -1,16 +1,16 @@
 //! The nodes among which the predicates of a step choose (XQuery 3.1, section 3.3.3).
 ghost use Rattle.std.specs.Prelude.{◌≡◌, true, IfSome};
-ghost use Rattle.xq_forms.specs.Views.{frame_at, FrameIn, Goes};
+ghost use Rattle.xq_operators.specs.Views.{frame_at, FrameIn, Goes};
 ghost use Rattle.xq_eval.specs.private.Choosing.{Suffices, LastSuffices, Chooses};
 
 use crate::positions::bare_call;
 use std::alloc::Global;
 use xq_atoms::Fault;
 use xq_expressions::Function;
-use xq_forms::{Frame, axis_items, first_children, last_child};
 use xq_meaning::{Plan, Test};
-use xq_regions::{Axis, Items};
-use xq_sources::Growing;
+use xq_operators::{EvalContext, axis_items, first_children, last_child};
+use xq_sources::TreeStore;
+use xq_trees::{Axis, Items};
 
 /// How many of the first items suffice for the predicates: where the first of them is a positive
 /// integer literal, it keeps none that comes later.
@@ -40,10 +40,10 @@ fn is_last(predicates: &[Plan]) -> bool
 /// The nodes on the axis from the context node that pass the test, in axis order. Children are
 /// looked for only as far as the predicates may keep them, and only the last one where they keep no
 /// other.
-pub fn nodes_of_step<W: Growing>(
+pub fn nodes_of_step<W: TreeStore>(
     alloc: Global,
     world: &mut W,
-    frame: Frame<'_>,
+    frame: EvalContext<'_>,
     axis: Axis,
     test: &Test,
     predicates: &[Plan],

@@ -3,8 +3,8 @@
 ghost use Rattle.std.specs.Prelude.{◌≡◌, [], ◌∷◌, ◌++◌, map, length, IfOk, IfErr, IfSome, IsSome};
 ghost use Rattle.std.specs.Option.{option_copied};
 ghost use Rattle.std.proofs.Common.{suc};
-ghost use Rattle.xq_regions.specs.Items.{ItemView, Value as AtomView, item_view, item_views};
-ghost use Rattle.xq_regions.specs.Tuples.{Tuple, expanded};
+ghost use Rattle.xq_trees.specs.Items.{ItemView, Value as AtomView, item_view, item_views};
+ghost use Rattle.xq_trees.specs.Tuples.{Tuple, expanded};
 ghost use Rattle.xq_tuples.specs.Keys.{row_of};
 ghost use Rattle.xq_tuples.specs.Views.{values_of};
 ghost use Rattle.xq_meaning.specs.Doing.{in_turn, one_more, more, for_each, collected};
@@ -12,7 +12,7 @@ ghost use Rattle.xq_meaning.specs.Forms as Forms;
 ghost use Rattle.xq_meaning.specs.Readings.{items_at, AreIn};
 ghost use Rattle.xq_meaning.specs.PlanMeaning.{plan_mean, plan_clause_mean, at_tuple as meant_at, next_clause};
 ghost use Rattle.xq_eval.specs.private.Keys.{keys_at};
-ghost use Rattle.xq_forms.specs.Views.{tuple_at, tuples_at, lists_of, order_specs, frame_at, FrameIn, TupleIn, TuplesIn, Goes, GivesSequence, GivesTuples};
+ghost use Rattle.xq_operators.specs.Views.{tuple_at, tuples_at, lists_of, order_specs, frame_at, FrameIn, TupleIn, TuplesIn, Goes, GivesSequence, GivesTuples};
 ghost use Rattle.xq_eval.specs.private.Results.{GivesLists, GivesTests, GivesKey, GivesKeys};
 ghost use Rattle.xq_eval.specs.private.Joining.{GivesMatched};
 
@@ -21,19 +21,19 @@ use sqlite_items::at;
 use std::alloc::Global;
 use xq_atoms::{Fault, Want};
 use xq_expressions::{AllowingEmpty, OrderModifier};
-use xq_forms::{Frame, group, into_atoms, joined, order_by_keys, rebind, refill};
 use xq_joins::{atom_of, join_at, matching};
 use xq_meaning::{Plan, PlanClause};
-use xq_regions::{Item, Items};
-use xq_sources::Growing;
+use xq_operators::{EvalContext, group, into_atoms, joined, order_by_keys, rebind, refill};
+use xq_sources::TreeStore;
+use xq_trees::{Item, Items};
 use xq_tuples::{Key, SlotValue, Tuples};
 
 /// The tuples after all clauses.
 #[cycle(eval)]
-pub fn clause_list<W: Growing>(
+pub fn clause_list<W: TreeStore>(
     alloc: Global,
     world: &mut W,
-    frame: Frame<'_>,
+    frame: EvalContext<'_>,
     clauses: &[PlanClause],
 ) -> Result<Tuples, Fault>
     ensures goes { Goes (W.forest world.old) (W.forest world.new) (W.is_clean world.old)
@@ -64,10 +64,10 @@ pub fn clause_list<W: Growing>(
 /// Where a `for` and the clause after it are a join, the items that both give for each tuple; what
 /// the `for` ranges over is evaluated once then. None where they aren't one.
 #[cycle(eval)]
-fn matching_lists<W: Growing>(
+fn matching_lists<W: TreeStore>(
     alloc: Global,
     world: &mut W,
-    frame: Frame<'_>,
+    frame: EvalContext<'_>,
     tuples: &Tuples,
     clause: &PlanClause,
     next: Option<&PlanClause>,
@@ -97,10 +97,10 @@ fn matching_lists<W: Growing>(
 
 /// The tuples after one clause more.
 #[cycle(eval)]
-fn next_tuples<W: Growing>(
+fn next_tuples<W: TreeStore>(
     alloc: Global,
     world: &mut W,
-    frame: Frame<'_>,
+    frame: EvalContext<'_>,
     tuples: Tuples,
     clause: &PlanClause,
 ) -> Result<Tuples, Fault>
@@ -155,10 +155,10 @@ fn expand(
 
 /// The value of a part at each tuple.
 #[cycle(eval)]
-fn values<W: Growing>(
+fn values<W: TreeStore>(
     alloc: Global,
     world: &mut W,
-    frame: Frame<'_>,
+    frame: EvalContext<'_>,
     tuples: &Tuples,
     part: &Plan,
 ) -> Result<Vec<Items>, Fault>
@@ -184,10 +184,10 @@ fn values<W: Growing>(
 /// The values so far, and that of a part at one tuple more, whose slots stand after those of the
 /// frame.
 #[cycle(eval)]
-fn next_value<W: Growing>(
+fn next_value<W: TreeStore>(
     alloc: Global,
     world: &mut W,
-    frame: Frame<'_>,
+    frame: EvalContext<'_>,
     done: Vec<Items>,
     slots: &[SlotValue],
     part: &Plan,
@@ -213,10 +213,10 @@ fn next_value<W: Growing>(
 
 /// The values of a part at all tuples, one after another.
 #[cycle(eval)]
-pub fn returned<W: Growing>(
+pub fn returned<W: TreeStore>(
     alloc: Global,
     world: &mut W,
-    frame: Frame<'_>,
+    frame: EvalContext<'_>,
     tuples: &Tuples,
     part: &Plan,
 ) -> Result<Items, Fault>
@@ -240,10 +240,10 @@ pub fn returned<W: Growing>(
 
 /// The values of a part at each item of a list, which one slot more holds, one after another.
 #[cycle(eval)]
-pub fn returned_each<W: Growing>(
+pub fn returned_each<W: TreeStore>(
     alloc: Global,
     world: &mut W,
-    frame: Frame<'_>,
+    frame: EvalContext<'_>,
     items: &[Item],
     part: &Plan,
 ) -> Result<Items, Fault>
@@ -268,10 +268,10 @@ pub fn returned_each<W: Growing>(
 /// The items so far, and those of a part at one tuple more, whose slots stand after those of the
 /// frame.
 #[cycle(eval)]
-fn next_returned<W: Growing>(
+fn next_returned<W: TreeStore>(
     alloc: Global,
     world: &mut W,
-    frame: Frame<'_>,
+    frame: EvalContext<'_>,
     done: Items,
     slots: &[SlotValue],
     part: &Plan,
@@ -287,7 +287,7 @@ fn next_returned<W: Growing>(
         frame.entry) t)) (items_at (W.forest world.old) (item_views done)) (tuple_at
         (W.forest world.old) tuple) (W.forest world.old)) (W.forest world.new) result }
 {
-    let inner = Frame {
+    let inner = EvalContext {
         slots,
         focus: frame.focus,
         addresses: frame.addresses,
@@ -297,10 +297,10 @@ fn next_returned<W: Growing>(
 
 /// Whether a part holds, at each tuple.
 #[cycle(eval)]
-fn tests<W: Growing>(
+fn tests<W: TreeStore>(
     alloc: Global,
     world: &mut W,
-    frame: Frame<'_>,
+    frame: EvalContext<'_>,
     tuples: &Tuples,
     part: &Plan,
 ) -> Result<Vec<bool>, Fault>
@@ -326,10 +326,10 @@ fn tests<W: Growing>(
 /// The answers so far, and whether a part holds at one tuple more, whose slots stand after those of
 /// the frame.
 #[cycle(eval)]
-fn next_test<W: Growing>(
+fn next_test<W: TreeStore>(
     alloc: Global,
     world: &mut W,
-    frame: Frame<'_>,
+    frame: EvalContext<'_>,
     done: Vec<bool>,
     slots: &[SlotValue],
     part: &Plan,
@@ -345,7 +345,7 @@ fn next_test<W: Growing>(
     ensures long { IfOk result (λ tests. length tests.items ≡ suc (length done.items)) }
 {
     let mut tests = done;
-    let inner = Frame {
+    let inner = EvalContext {
         slots,
         focus: frame.focus,
         addresses: frame.addresses,
@@ -357,10 +357,10 @@ fn next_test<W: Growing>(
 
 /// The value of a part at one tuple, whose slots stand after those of the frame.
 #[cycle(eval)]
-fn at_tuple<W: Growing>(
+fn at_tuple<W: TreeStore>(
     alloc: Global,
     world: &mut W,
-    frame: Frame<'_>,
+    frame: EvalContext<'_>,
     slots: &[SlotValue],
     part: &Plan,
 ) -> Result<Items, Fault>
@@ -374,7 +374,7 @@ fn at_tuple<W: Growing>(
         (tuple_at (W.forest world.old) tuple)) (W.forest world.old))
         (W.forest world.new) result }
 {
-    let inner = Frame {
+    let inner = EvalContext {
         slots,
         focus: frame.focus,
         addresses: frame.addresses,
@@ -384,10 +384,10 @@ fn at_tuple<W: Growing>(
 
 /// The keys of all tuples, one tuple after another.
 #[cycle(eval)]
-fn all_keys<W: Growing>(
+fn all_keys<W: TreeStore>(
     alloc: Global,
     world: &mut W,
-    frame: Frame<'_>,
+    frame: EvalContext<'_>,
     tuples: &Tuples,
     specs: &[(Plan, OrderModifier)],
 ) -> Result<Vec<Key>, Fault>
@@ -411,10 +411,10 @@ fn all_keys<W: Growing>(
 
 /// The keys so far, and those of one tuple more, whose slots stand after those of the frame.
 #[cycle(eval)]
-fn next_keys<W: Growing>(
+fn next_keys<W: TreeStore>(
     alloc: Global,
     world: &mut W,
-    frame: Frame<'_>,
+    frame: EvalContext<'_>,
     done: Vec<Key>,
     slots: &[SlotValue],
     specs: &[(Plan, OrderModifier)],
@@ -429,7 +429,7 @@ fn next_keys<W: Growing>(
         (W.forest world.old) frame.entry) t)) (row_of done) (tuple_at (W.forest world.old)
         tuple) (W.forest world.old)) (W.forest world.new) result }
 {
-    let inner = Frame {
+    let inner = EvalContext {
         slots,
         focus: frame.focus,
         addresses: frame.addresses,
@@ -439,10 +439,10 @@ fn next_keys<W: Growing>(
 
 /// The keys so far, and those of one tuple more, in its frame.
 #[cycle(eval)]
-fn keys<W: Growing>(
+fn keys<W: TreeStore>(
     alloc: Global,
     world: &mut W,
-    frame: Frame<'_>,
+    frame: EvalContext<'_>,
     done: Vec<Key>,
     specs: &[(Plan, OrderModifier)],
 ) -> Result<Vec<Key>, Fault>
@@ -461,10 +461,10 @@ fn keys<W: Growing>(
 
 /// The keys so far, and one more.
 #[cycle(eval)]
-fn next_key<W: Growing>(
+fn next_key<W: TreeStore>(
     alloc: Global,
     world: &mut W,
-    frame: Frame<'_>,
+    frame: EvalContext<'_>,
     done: Vec<Key>,
     part: &Plan,
 ) -> Result<Vec<Key>, Fault>
@@ -484,10 +484,10 @@ fn next_key<W: Growing>(
 /// The key that a part is. Where it is one atom of one step from a node at hand, that is read where
 /// it lies.
 #[cycle(eval)]
-fn key_of<W: Growing>(
+fn key_of<W: TreeStore>(
     alloc: Global,
     world: &mut W,
-    frame: Frame<'_>,
+    frame: EvalContext<'_>,
     part: &Plan,
 ) -> Result<Key, Fault>
     ensures goes { Goes (W.forest world.old) (W.forest world.new) (W.is_clean world.old)

@@ -4,12 +4,12 @@ ghost use Rattle.std.specs.Prelude.{◌≡◌, ◌++◌, List, map, string_bytes
 ghost use Rattle.xq_atoms.specs.Atom.{atomic_of};
 ghost use Rattle.xq_atoms.specs.Cast.{text_of};
 ghost use Rattle.xq_atoms.specs.Text.{Text};
-ghost use Rattle.xq_regions.specs.Tree.{Tree};
+ghost use Rattle.xq_trees.specs.Tree.{Tree};
 ghost use Rattle.xq_tuples.specs.Views.{values_of};
 ghost use Rattle.xq_meaning.specs.Arguments.{atomic};
 ghost use Rattle.xq_meaning.specs.Forms as Forms;
 ghost use Rattle.xq_meaning.specs.PlanMeaning.{Frame as Meant, plan_mean};
-ghost use Rattle.xq_forms.specs.Views.{tuple_at};
+ghost use Rattle.xq_operators.specs.Views.{tuple_at};
 ghost use Rattle.xq_joins.specs.Atoms.{Tells};
 ghost use Rattle.xq_eval.specs.private.Numbers.{AddsPiece};
 

@@ -1,21 +1,21 @@
 //! Calls that only count the value of a variable, which they don't copy.
 ghost use Rattle.std.specs.Prelude.{◌≡◌, List, map, Ok, IfOk, IfSome, string_bytes};
 ghost use Rattle.xq_atoms.specs.Text.{Text};
-ghost use Rattle.xq_regions.specs.Items.{item_view, item_views};
-ghost use Rattle.xq_regions.specs.Tree.{Tree};
+ghost use Rattle.xq_trees.specs.Items.{item_view, item_views};
+ghost use Rattle.xq_trees.specs.Tree.{Tree};
 ghost use Rattle.xq_tuples.specs.Views.{values_of};
 ghost use Rattle.xq_meaning.specs.Functions as Functions;
 ghost use Rattle.xq_meaning.specs.Readings.{items_at, AreIn};
 ghost use Rattle.xq_meaning.specs.Forms as Forms;
 ghost use Rattle.xq_meaning.specs.PlanMeaning.{Frame as Meant, plan_mean};
-ghost use Rattle.xq_forms.specs.Views.{tuple_at};
+ghost use Rattle.xq_operators.specs.Views.{tuple_at};
 
 use std::alloc::Global;
 use xq_atoms::{Atom, Want};
 use xq_expressions::Function;
-use xq_forms::single;
 use xq_meaning::Plan;
-use xq_regions::{Item, Items};
+use xq_operators::single;
+use xq_trees::{Item, Items};
 use xq_tuples::SlotValue;
 
 /// What a function that only counts gives; `None` for another function.

@@ -3,16 +3,16 @@ ghost use Rattle.std.specs.Prelude.{◌≡◌, [], ◌∷◌, map, IfSome};
 ghost use Rattle.std.specs.List.{AllByRecursion};
 ghost use Rattle.xq_atoms.specs.Text.{Text};
 ghost use Rattle.xq_meaning.specs.declared.plans.Plan.TheVariants as plan_of;
-ghost use Rattle.xq_regions.specs.Items.{item_view, item_views};
+ghost use Rattle.xq_trees.specs.Items.{item_view, item_views};
 ghost use Rattle.xq_meaning.specs.Readings.{items_at, IsIn, AreIn};
 ghost use Rattle.xq_meaning.specs.Doing.{in_turn, more, one_more, first_that};
 ghost use Rattle.xq_meaning.specs.Forms as Forms;
 ghost use Rattle.xq_meaning.specs.PlanMeaning.{plan_mean};
-ghost use Rattle.xq_forms.specs.Views.{tuple_at, lists_of, spot_at, frame_at, FrameIn, TupleIn, Goes, GivesSequence};
+ghost use Rattle.xq_operators.specs.Views.{tuple_at, lists_of, spot_at, frame_at, FrameIn, TupleIn, Goes, GivesSequence};
 ghost use Rattle.xq_eval.specs.private.Results.{GivesLists, GivesPlain};
 ghost use Rattle.xq_eval.specs.private.Scanning.{IsLiteral, Scans};
 
-use crate::at_hand::atom_at_hand;
+use crate::at_hand::cheap_atom;
 use crate::concatenation::concatenated;
 use crate::counting::counted_variable;
 use crate::expressions::{
@@ -26,22 +26,22 @@ use sqlite_items::Items as PlanItems;
 use std::alloc::Global;
 use xq_atoms::Fault;
 use xq_expressions::{Function, NamedNode};
-use xq_forms::{
-    Focus, Frame, call, call_on_one, context_item, decimal, integer, operate, push_copy, root,
-    single, string, variable,
-};
 use xq_functions::{effective, keeps};
 use xq_joins::{atom_of_call, leads_to_text, node_test};
 use xq_meaning::{Operator, Plan};
-use xq_regions::{Item, Items};
-use xq_sources::Growing;
+use xq_operators::{
+    EvalContext, Focus, call, call_on_one, context_item, decimal, integer, operate, push_copy,
+    root, single, string, variable,
+};
+use xq_sources::TreeStore;
+use xq_trees::{Item, Items};
 
 /// The value of a plan. It goes on to a function for each form, and keeps nothing meanwhile.
 #[cycle(eval)]
-pub fn evaluate<W: Growing>(
+pub fn evaluate<W: TreeStore>(
     alloc: Global,
     world: &mut W,
-    frame: Frame<'_>,
+    frame: EvalContext<'_>,
     plan: &Plan,
 ) -> Result<Items, Fault>
     ensures goes { Goes (W.forest world.old) (W.forest world.new) (W.is_clean world.old)
@@ -95,10 +95,10 @@ pub fn evaluate<W: Growing>(
 /// The items of each part.
 #[cycle(eval)]
 #[inline(never)]
-fn sequence<W: Growing>(
+fn sequence<W: TreeStore>(
     alloc: Global,
     world: &mut W,
-    frame: Frame<'_>,
+    frame: EvalContext<'_>,
     parts: &[Plan],
 ) -> Result<Items, Fault>
     ensures goes { Goes (W.forest world.old) (W.forest world.new) (W.is_clean world.old)
@@ -117,10 +117,10 @@ fn sequence<W: Growing>(
 /// The items of one part, after those before it. Of one atom at hand, and of a constructed node, no
 /// list is made.
 #[cycle(eval)]
-pub fn next_part<W: Growing>(
+pub fn next_part<W: TreeStore>(
     alloc: Global,
     world: &mut W,
-    frame: Frame<'_>,
+    frame: EvalContext<'_>,
     done: Items,
     part: &Plan,
 ) -> Result<Items, Fault>
@@ -139,7 +139,7 @@ pub fn next_part<W: Growing>(
         return next_constructed(alloc, world, frame, done, *kind, name.get(), content.get());
     }
     let mut items = done;
-    if let Some(value) = atom_at_hand(alloc, frame.slots, part)? {
+    if let Some(value) = cheap_atom(alloc, frame.slots, part)? {
         items.push(Item::Atom(value))?;
         return Ok(items);
     }
@@ -151,10 +151,10 @@ pub fn next_part<W: Growing>(
 /// The items of one call, after those before it. Where it is one atom of one step from a node at
 /// hand, no list is made of it.
 #[cycle(eval)]
-fn next_called<W: Growing>(
+fn next_called<W: TreeStore>(
     alloc: Global,
     world: &mut W,
-    frame: Frame<'_>,
+    frame: EvalContext<'_>,
     done: Items,
     function: Function,
     parts: &[Plan],
@@ -179,10 +179,10 @@ fn next_called<W: Growing>(
 
 /// The node of a constructor with a name, after the items before it.
 #[cycle(eval)]
-fn next_constructed<W: Growing>(
+fn next_constructed<W: TreeStore>(
     alloc: Global,
     world: &mut W,
-    frame: Frame<'_>,
+    frame: EvalContext<'_>,
     done: Items,
     kind: NamedNode,
     name: &Plan,
@@ -204,10 +204,10 @@ fn next_constructed<W: Growing>(
 
 /// What the operators give, one after another.
 #[cycle(eval)]
-pub fn chain<W: Growing>(
+pub fn chain<W: TreeStore>(
     alloc: Global,
     world: &mut W,
-    frame: Frame<'_>,
+    frame: EvalContext<'_>,
     first: Items,
     rest: &[(Operator, Plan)],
 ) -> Result<Items, Fault>
@@ -228,10 +228,10 @@ pub fn chain<W: Growing>(
 
 /// What one operator gives.
 #[cycle(eval)]
-fn next_operand<W: Growing>(
+fn next_operand<W: TreeStore>(
     alloc: Global,
     world: &mut W,
-    frame: Frame<'_>,
+    frame: EvalContext<'_>,
     left: Items,
     operator: Operator,
     part: &Plan,
@@ -250,10 +250,10 @@ fn next_operand<W: Growing>(
 
 /// Whether one of the parts has the wanted truth; those after the first that has are not evaluated.
 #[cycle(eval)]
-pub fn decided<W: Growing>(
+pub fn decided<W: TreeStore>(
     alloc: Global,
     world: &mut W,
-    frame: Frame<'_>,
+    frame: EvalContext<'_>,
     parts: &[Plan],
     wanted: bool,
 ) -> Result<bool, Fault>
@@ -274,10 +274,10 @@ pub fn decided<W: Growing>(
 
 /// The truth of a part. Where it asks a node at hand for a text, that is only read.
 #[cycle(eval)]
-pub fn tested<W: Growing>(
+pub fn tested<W: TreeStore>(
     alloc: Global,
     world: &mut W,
-    frame: Frame<'_>,
+    frame: EvalContext<'_>,
     part: &Plan,
 ) -> Result<bool, Fault>
     ensures goes { Goes (W.forest world.old) (W.forest world.new) (W.is_clean world.old)
@@ -295,10 +295,10 @@ pub fn tested<W: Growing>(
 
 /// The items that all predicates keep.
 #[cycle(eval)]
-pub fn filter<W: Growing>(
+pub fn filter<W: TreeStore>(
     alloc: Global,
     world: &mut W,
-    frame: Frame<'_>,
+    frame: EvalContext<'_>,
     items: Items,
     predicates: &[Plan],
 ) -> Result<Items, Fault>
@@ -321,10 +321,10 @@ pub fn filter<W: Growing>(
 /// The items that one predicate keeps. One whose value an item's position tells is not evaluated at
 /// each, and one that asks nodes for a text, or for those of a key, only reads.
 #[cycle(eval)]
-fn keep<W: Growing>(
+fn keep<W: TreeStore>(
     alloc: Global,
     world: &mut W,
-    frame: Frame<'_>,
+    frame: EvalContext<'_>,
     items: &[Item],
     predicate: &Plan,
 ) -> Result<Items, Fault>
@@ -361,10 +361,10 @@ fn keep<W: Growing>(
 
 /// The items kept so far, and the one in focus where the predicate keeps it.
 #[cycle(eval)]
-fn pass<W: Growing>(
+fn pass<W: TreeStore>(
     alloc: Global,
     world: &mut W,
-    frame: Frame<'_>,
+    frame: EvalContext<'_>,
     done: Items,
     spot: Focus<'_>,
     predicate: &Plan,
@@ -378,7 +378,7 @@ fn pass<W: Growing>(
         frame.entry)) (items_at (W.forest world.old) (item_views done)) (spot_at
         (W.forest world.old) spot.entry) (W.forest world.old)) (W.forest world.new) result }
 {
-    let inner = Frame {
+    let inner = EvalContext {
         focus: Some(spot),
         ..frame
     };
@@ -401,10 +401,10 @@ fn only_part(parts: &[Plan]) -> Option<&Plan>
 /// the nodes to which that leads.
 #[cycle(eval)]
 #[inline(never)]
-fn call_value<W: Growing>(
+fn call_value<W: TreeStore>(
     alloc: Global,
     world: &mut W,
-    frame: Frame<'_>,
+    frame: EvalContext<'_>,
     function: Function,
     parts: &[Plan],
 ) -> Result<Items, Fault>
@@ -428,10 +428,10 @@ fn call_value<W: Growing>(
 /// into no list, and numbers and literals that are put together are put into none.
 #[cycle(eval)]
 #[inline(never)]
-fn called<W: Growing>(
+fn called<W: TreeStore>(
     alloc: Global,
     world: &mut W,
-    frame: Frame<'_>,
+    frame: EvalContext<'_>,
     function: Function,
     parts: &[Plan],
 ) -> Result<Items, Fault>
@@ -461,10 +461,10 @@ fn called<W: Growing>(
 
 /// What the calls after arrows give, one after another.
 #[cycle(eval)]
-pub fn call_list<W: Growing>(
+pub fn call_list<W: TreeStore>(
     alloc: Global,
     world: &mut W,
-    frame: Frame<'_>,
+    frame: EvalContext<'_>,
     first: Items,
     calls: &[(Function, PlanItems<Plan>)],
 ) -> Result<Items, Fault>
@@ -487,10 +487,10 @@ pub fn call_list<W: Growing>(
 
 /// What one call gives, whose first argument has a value already.
 #[cycle(eval)]
-fn next_call<W: Growing>(
+fn next_call<W: TreeStore>(
     alloc: Global,
     world: &mut W,
-    frame: Frame<'_>,
+    frame: EvalContext<'_>,
     items: Items,
     function: Function,
     parts: &[Plan],
@@ -511,10 +511,10 @@ fn next_call<W: Growing>(
 
 /// The values of the arguments so far, and that of each other.
 #[cycle(eval)]
-fn arguments<W: Growing>(
+fn arguments<W: TreeStore>(
     alloc: Global,
     world: &mut W,
-    frame: Frame<'_>,
+    frame: EvalContext<'_>,
     done: Vec<Items>,
     parts: &[Plan],
 ) -> Result<Vec<Items>, Fault>
@@ -537,10 +537,10 @@ fn arguments<W: Growing>(
 
 /// The values so far, and that of one argument more.
 #[cycle(eval)]
-fn next_argument<W: Growing>(
+fn next_argument<W: TreeStore>(
     alloc: Global,
     world: &mut W,
-    frame: Frame<'_>,
+    frame: EvalContext<'_>,
     done: Vec<Items>,
     part: &Plan,
 ) -> Result<Vec<Items>, Fault>

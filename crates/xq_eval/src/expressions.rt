@@ -4,7 +4,7 @@
 ghost use Rattle.std.specs.Prelude.{◌≡◌, ◌*◌, ◌∷◌, [], List, map, length, false, IfSome};
 ghost use Rattle.xq_atoms.specs.Atom.{String as AtomicString};
 ghost use Rattle.xq_atoms.specs.Text.{Text};
-ghost use Rattle.xq_regions.specs.declared.Axis.{Axis as AxisLem};
+ghost use Rattle.xq_trees.specs.declared.Axis.{Axis as AxisLem};
 ghost use Rattle.xq_meaning.specs.declared.node_tests.Test.{Test as TestLem};
 ghost use Rattle.xq_meaning.specs.declared.plans.Plan.TheVariants as plan_of;
 ghost use Rattle.xq_meaning.specs.declared.plans.PlanClause.TheVariants as plan_clause;
@@ -15,13 +15,13 @@ ghost use Rattle.xq_meaning.specs.Doing.{go_on, give, first_that};
 ghost use Rattle.xq_meaning.specs.Forms as Forms;
 ghost use Rattle.xq_meaning.specs.PlanMeaning as Meant;
 ghost use Rattle.xq_meaning.specs.PlanMeaning.{plan_mean, plan_clause_mean, plan_step_mean};
-ghost use Rattle.xq_forms.specs.Reads.{HasGrown};
-ghost use Rattle.xq_forms.specs.Views.{frame_at, FrameIn, Goes, GivesNode, GivesSequence};
+ghost use Rattle.xq_operators.specs.Reads.{HasGrown};
+ghost use Rattle.xq_operators.specs.Views.{frame_at, FrameIn, Goes, GivesNode, GivesSequence};
 ghost use Rattle.xq_eval.specs.Reads.{rows_at};
 ghost use Rattle.xq_eval.specs.private.Filled.{filled};
 ghost use Rattle.xq_eval.specs.private.Quantifying.{IsOf, bindings};
 
-use crate::at_hand::{atom_at_hand, picked};
+use crate::at_hand::{cheap_atom, picked};
 use crate::chosen::nodes_of_step;
 use crate::clauses::{clause_list, returned, returned_each};
 use crate::evaluation::{call_list, chain, decided, evaluate, filter};
@@ -32,24 +32,26 @@ use sqlite_items::Items as PlanItems;
 use std::alloc::Global;
 use std::slice::from_ref;
 use xq_atoms::Fault;
+use xq_axes::in_axis_order;
+use xq_build::literal_name;
 use xq_expressions::{AllowingEmpty, Function, NamedNode, Quantifier, Sign, UnnamedNode};
-use xq_forms::{
-    Frame, boolean, deciding, in_axis_order, literal_name, node_name, planted_named, scan_from,
-    short_path, sign, single, unnamed,
-};
 use xq_functions::effective;
 use xq_meaning::{Operator, Plan, PlanClause, PlanStep, Test};
-use xq_regions::{Axis, Item, Items, Node};
-use xq_sources::Growing;
+use xq_operators::{
+    EvalContext, boolean, deciding, node_name, planted_named, scan_from, short_path, sign, single,
+    unnamed,
+};
+use xq_sources::TreeStore;
+use xq_trees::{Axis, Item, Items, Node};
 
 /// Operands and the operators between them (XQuery 3.1, sections 3.4 to 3.7). Where they are
 /// arithmetic on numbers at hand, no list is made of an operand.
 #[cycle(eval)]
 #[inline(never)]
-pub fn operands<W: Growing>(
+pub fn operands<W: TreeStore>(
     alloc: Global,
     world: &mut W,
-    frame: Frame<'_>,
+    frame: EvalContext<'_>,
     first: &Plan,
     rest: &[(Operator, Plan)],
 ) -> Result<Items, Fault>
@@ -70,10 +72,10 @@ pub fn operands<W: Growing>(
 /// Signs before a value (XQuery 3.1, section 3.5).
 #[cycle(eval)]
 #[inline(never)]
-pub fn signed<W: Growing>(
+pub fn signed<W: TreeStore>(
     alloc: Global,
     world: &mut W,
-    frame: Frame<'_>,
+    frame: EvalContext<'_>,
     signs: &[Sign],
     part: &Plan,
 ) -> Result<Items, Fault>
@@ -90,10 +92,10 @@ pub fn signed<W: Growing>(
 /// A conditional expression (XQuery 3.1, section 3.14).
 #[cycle(eval)]
 #[inline(never)]
-pub fn conditional<W: Growing>(
+pub fn conditional<W: TreeStore>(
     alloc: Global,
     world: &mut W,
-    frame: Frame<'_>,
+    frame: EvalContext<'_>,
     test: &Plan,
     yes: &Plan,
     no: &Plan,
@@ -116,10 +118,10 @@ pub fn conditional<W: Growing>(
 /// A logical expression (XQuery 3.1, section 3.8): whether one of the parts has the wanted truth.
 #[cycle(eval)]
 #[inline(never)]
-pub fn logical<W: Growing>(
+pub fn logical<W: TreeStore>(
     alloc: Global,
     world: &mut W,
-    frame: Frame<'_>,
+    frame: EvalContext<'_>,
     parts: &[Plan],
     wanted: bool,
 ) -> Result<Items, Fault>
@@ -138,10 +140,10 @@ pub fn logical<W: Growing>(
 /// several literals, the others are not made.
 #[cycle(eval)]
 #[inline(never)]
-pub fn filtered<W: Growing>(
+pub fn filtered<W: TreeStore>(
     alloc: Global,
     world: &mut W,
-    frame: Frame<'_>,
+    frame: EvalContext<'_>,
     start: &Plan,
     predicates: &[Plan],
 ) -> Result<Items, Fault>
@@ -181,10 +183,10 @@ fn lone_for(clauses: &[PlanClause]) -> Option<&Plan>
 /// no tuples are made.
 #[cycle(eval)]
 #[inline(never)]
-pub fn flwor<W: Growing>(
+pub fn flwor<W: TreeStore>(
     alloc: Global,
     world: &mut W,
-    frame: Frame<'_>,
+    frame: EvalContext<'_>,
     clauses: &[PlanClause],
     part: &Plan,
 ) -> Result<Items, Fault>
@@ -207,10 +209,10 @@ pub fn flwor<W: Growing>(
 /// made of that node.
 #[cycle(eval)]
 #[inline(never)]
-pub fn path<W: Growing>(
+pub fn path<W: TreeStore>(
     alloc: Global,
     world: &mut W,
-    frame: Frame<'_>,
+    frame: EvalContext<'_>,
     start: &Plan,
     steps: &[PlanStep],
 ) -> Result<Items, Fault>
@@ -237,10 +239,10 @@ pub fn path<W: Growing>(
 /// A step from the context item, and its predicates (XQuery 3.1, section 3.3.2).
 #[cycle(eval)]
 #[inline(never)]
-pub fn axis_step<W: Growing>(
+pub fn axis_step<W: TreeStore>(
     alloc: Global,
     world: &mut W,
-    frame: Frame<'_>,
+    frame: EvalContext<'_>,
     axis: Axis,
     test: &Test,
     predicates: &[Plan],
@@ -260,10 +262,10 @@ pub fn axis_step<W: Growing>(
 /// A node of this kind and name, whose content a plan gives. Where that is one atom at hand, no
 /// list is made of it.
 #[cycle(eval)]
-fn with_content<W: Growing>(
+fn with_content<W: TreeStore>(
     alloc: Global,
     world: &mut W,
-    frame: Frame<'_>,
+    frame: EvalContext<'_>,
     kind: NamedNode,
     name: &str,
     part: &Plan,
@@ -274,7 +276,7 @@ fn with_content<W: Growing>(
         → GivesNode (filled kind name.now (plan_mean part.now) (frame_at (W.forest world.old)
         frame.entry) (W.forest world.old)) (W.forest world.new) result }
 {
-    if let Some(atom) = atom_at_hand(alloc, frame.slots, part)? {
+    if let Some(atom) = cheap_atom(alloc, frame.slots, part)? {
         return planted_named(alloc, world, kind, name, from_ref(&Item::Atom(atom)));
     }
     let content = evaluate(alloc, world, frame, part)?;
@@ -283,10 +285,10 @@ fn with_content<W: Growing>(
 
 /// The node of a constructor whose name is a string literal, which is read where it lies.
 #[cycle(eval)]
-fn literally_named<W: Growing>(
+fn literally_named<W: TreeStore>(
     alloc: Global,
     world: &mut W,
-    frame: Frame<'_>,
+    frame: EvalContext<'_>,
     kind: NamedNode,
     text: &str,
     part: &Plan,
@@ -304,10 +306,10 @@ fn literally_named<W: Growing>(
 
 /// The node of a constructor with a name (XQuery 3.1, section 3.9.3).
 #[cycle(eval)]
-pub fn constructed<W: Growing>(
+pub fn constructed<W: TreeStore>(
     alloc: Global,
     world: &mut W,
-    frame: Frame<'_>,
+    frame: EvalContext<'_>,
     kind: NamedNode,
     name: &Plan,
     part: &Plan,
@@ -330,10 +332,10 @@ pub fn constructed<W: Growing>(
 /// A constructor of a node with a name (XQuery 3.1, section 3.9.3).
 #[cycle(eval)]
 #[inline(never)]
-pub fn named_node<W: Growing>(
+pub fn named_node<W: TreeStore>(
     alloc: Global,
     world: &mut W,
-    frame: Frame<'_>,
+    frame: EvalContext<'_>,
     kind: NamedNode,
     name: &Plan,
     part: &Plan,
@@ -353,10 +355,10 @@ pub fn named_node<W: Growing>(
 /// atom at hand, no list is made of it.
 #[cycle(eval)]
 #[inline(never)]
-pub fn unnamed_node<W: Growing>(
+pub fn unnamed_node<W: TreeStore>(
     alloc: Global,
     world: &mut W,
-    frame: Frame<'_>,
+    frame: EvalContext<'_>,
     kind: UnnamedNode,
     part: &Plan,
 ) -> Result<Items, Fault>
@@ -367,7 +369,7 @@ pub fn unnamed_node<W: Growing>(
         (frame_at (W.forest world.old) frame.entry) (W.forest world.old)) (W.forest world.new)
         result }
 {
-    if let Some(atom) = atom_at_hand(alloc, frame.slots, part)? {
+    if let Some(atom) = cheap_atom(alloc, frame.slots, part)? {
         return unnamed(alloc, world, kind, from_ref(&Item::Atom(atom)));
     }
     let content = evaluate(alloc, world, frame, part)?;
@@ -377,10 +379,10 @@ pub fn unnamed_node<W: Growing>(
 /// Calls after arrows (XQuery 3.1, section 3.20).
 #[cycle(eval)]
 #[inline(never)]
-pub fn arrow<W: Growing>(
+pub fn arrow<W: TreeStore>(
     alloc: Global,
     world: &mut W,
-    frame: Frame<'_>,
+    frame: EvalContext<'_>,
     first: &Plan,
     calls: &[(Function, PlanItems<Plan>)],
 ) -> Result<Items, Fault>
@@ -400,10 +402,10 @@ pub fn arrow<W: Growing>(
 /// A simple map (XQuery 3.1, section 3.19).
 #[cycle(eval)]
 #[inline(never)]
-pub fn simple_map<W: Growing>(
+pub fn simple_map<W: TreeStore>(
     alloc: Global,
     world: &mut W,
-    frame: Frame<'_>,
+    frame: EvalContext<'_>,
     start: &Plan,
     parts: &[Plan],
 ) -> Result<Items, Fault>
@@ -421,10 +423,10 @@ pub fn simple_map<W: Growing>(
 /// A quantified expression, which is the whole plan (XQuery 3.1, section 3.16).
 #[cycle(eval)]
 #[inline(never)]
-pub fn quantified<W: Growing>(
+pub fn quantified<W: TreeStore>(
     alloc: Global,
     world: &mut W,
-    frame: Frame<'_>,
+    frame: EvalContext<'_>,
     whole: &Plan,
     which: Quantifier,
     ranges: &[Plan],

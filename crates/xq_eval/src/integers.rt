@@ -2,21 +2,21 @@
 //! is handed from operator to operator.
 ghost use Rattle.std.specs.Prelude.{◌≡◌, ◌∷◌, [], List, map, Ok, IfSome};
 ghost use Rattle.xq_atoms.specs.Atom.{Integer};
-ghost use Rattle.xq_regions.specs.Items.{Value, item_view};
-ghost use Rattle.xq_regions.specs.Tree.{Tree};
-ghost use Rattle.xq_regions.specs.Tuples.{value_at};
+ghost use Rattle.xq_trees.specs.Items.{Value, item_view};
+ghost use Rattle.xq_trees.specs.Tree.{Tree};
+ghost use Rattle.xq_trees.specs.Tuples.{value_at};
 ghost use Rattle.xq_tuples.specs.Views.{values_of};
 ghost use Rattle.xq_meaning.specs.Arguments.{atomic};
 ghost use Rattle.xq_meaning.specs.Forms as Forms;
 ghost use Rattle.xq_meaning.specs.Operators as Operators;
 ghost use Rattle.xq_meaning.specs.PlanMeaning.{plan_mean};
-ghost use Rattle.xq_forms.specs.Views.{tuple_at};
+ghost use Rattle.xq_operators.specs.Views.{tuple_at};
 ghost use Rattle.xq_eval.specs.private.AtHand.{GivesIn};
 
 use xq_atoms::Atom;
 use xq_expressions::{ProductOperator, Sign};
 use xq_meaning::{Operator, Plan};
-use xq_regions::Item;
+use xq_trees::Item;
 use xq_tuples::SlotValue;
 
 /// The integer that the items are, where they are one.

@@ -2,22 +2,22 @@
 //! operands give, and no atoms where all of it is in integers.
 ghost use Rattle.std.specs.Prelude.{◌≡◌, ◌∷◌, [], List, map, true, Ok, IfSome};
 ghost use Rattle.xq_atoms.specs.Atom.{atomic_of, judged_of, numeric};
-ghost use Rattle.xq_regions.specs.Items.{Value as AtomView, item_view};
-ghost use Rattle.xq_regions.specs.Tree.{Tree};
-ghost use Rattle.xq_regions.specs.Tuples.{value_at};
+ghost use Rattle.xq_trees.specs.Items.{Value as AtomView, item_view};
+ghost use Rattle.xq_trees.specs.Tree.{Tree};
+ghost use Rattle.xq_trees.specs.Tuples.{value_at};
 ghost use Rattle.xq_tuples.specs.Views.{values_of};
 ghost use Rattle.xq_meaning.specs.Arguments.{atomic};
 ghost use Rattle.xq_meaning.specs.Forms as Forms;
 ghost use Rattle.xq_meaning.specs.Operators as Operators;
 ghost use Rattle.xq_meaning.specs.PlanMeaning.{Frame as Meant, plan_mean};
-ghost use Rattle.xq_forms.specs.Views.{tuple_at};
+ghost use Rattle.xq_operators.specs.Views.{tuple_at};
 ghost use Rattle.xq_eval.specs.private.Numbers.{TellsResult, TellsNumber};
 
 use crate::integers::{integer_of, integer_of_chain};
 use xq_atoms::{Atom, Code, add, div, idiv, mod_, mul, sub};
 use xq_expressions::{ProductOperator, Sign};
 use xq_meaning::{Operator, Plan};
-use xq_regions::Item;
+use xq_trees::Item;
 use xq_tuples::SlotValue;
 
 /// The number that the items are, where they are one.

@@ -3,30 +3,30 @@ ghost use Rattle.std.specs.Prelude.{◌≡◌, ◌*◌, ℕ, List, length, map, 
 ghost use Rattle.std.specs.List.{AllByRecursion};
 ghost use Rattle.std.specs.Option.{option_copied};
 ghost use Rattle.xq_meaning.specs.declared.plans.PlanStep.TheVariants as plan_step;
-ghost use Rattle.xq_regions.specs.Items.{item_view, item_views};
+ghost use Rattle.xq_trees.specs.Items.{item_view, item_views};
 ghost use Rattle.xq_meaning.specs.Readings.{items_at, IsIn, AreIn};
 ghost use Rattle.xq_meaning.specs.Steps.{focuses};
 ghost use Rattle.xq_meaning.specs.Doing.{in_turn, more, collected};
 ghost use Rattle.xq_meaning.specs.Forms as Forms;
 ghost use Rattle.xq_meaning.specs.PlanMeaning.{plan_mean, plan_step_mean, next_step};
-ghost use Rattle.xq_forms.specs.Views.{spot_at, frame_at, FrameIn, Goes, GivesSequence};
-ghost use Rattle.xq_forms.specs.Reads.{rows_of, AreOf, HasGrown};
+ghost use Rattle.xq_operators.specs.Views.{spot_at, frame_at, FrameIn, Goes, GivesSequence};
+ghost use Rattle.xq_operators.specs.Reads.{rows_of, AreOf, HasGrown};
 ghost use Rattle.xq_eval.specs.private.Children.{IsToChildren};
 ghost use Rattle.xq_eval.specs.private.Scanning.{IsScan};
 
 use crate::evaluation::next_part;
 use crate::texts::{ChosenChildren, below_by_texts};
-use crate::told::told_at_each;
+use crate::told::call_per_node;
 use sqlite_items::at;
 use std::alloc::Global;
 use xq_atoms::Fault;
-use xq_forms::{
-    Focus, Frame, double_slash, gather, items_after_scans, only_node, only_nodes, parents_below,
-    scan,
-};
 use xq_meaning::{Plan, PlanStep, Test};
-use xq_regions::{Axis, Item, Items};
-use xq_sources::Growing;
+use xq_operators::{
+    EvalContext, Focus, double_slash, gather, items_after_scans, only_node, only_nodes,
+    parents_below, scan,
+};
+use xq_sources::TreeStore;
+use xq_trees::{Axis, Item, Items};
 
 /// Whether the step is `descendant-or-self::node()`, for which `//` stands (XQuery 3.1, section
 /// 3.3.5).
@@ -77,10 +77,10 @@ fn chosen_children(next: Option<&PlanStep>) -> Option<ChosenChildren<'_>>
 
 /// The items after all steps. Those that are scans from one node go from places to places.
 #[cycle(eval)]
-pub fn step_list<W: Growing>(
+pub fn step_list<W: TreeStore>(
     alloc: Global,
     world: &mut W,
-    frame: Frame<'_>,
+    frame: EvalContext<'_>,
     items: Items,
     steps: &[PlanStep],
 ) -> Result<Items, Fault>
@@ -107,10 +107,10 @@ pub fn step_list<W: Growing>(
 /// that step has one predicate, which asks for a text or for those of a key; where it has others,
 /// it is tried at those nodes alone that have such children.
 #[cycle(eval)]
-fn later_steps<W: Growing>(
+fn later_steps<W: TreeStore>(
     alloc: Global,
     world: &mut W,
-    frame: Frame<'_>,
+    frame: EvalContext<'_>,
     items: Items,
     steps: &[PlanStep],
 ) -> Result<Items, Fault>
@@ -160,10 +160,10 @@ fn later_steps<W: Growing>(
 
 /// The items after one step more.
 #[cycle(eval)]
-fn next_items<W: Growing>(
+fn next_items<W: TreeStore>(
     alloc: Global,
     world: &mut W,
-    frame: Frame<'_>,
+    frame: EvalContext<'_>,
     items: Items,
     step: &PlanStep,
 ) -> Result<Items, Fault>
@@ -193,10 +193,10 @@ fn next_items<W: Growing>(
 
 /// The items after each `!`, from those before it.
 #[cycle(eval)]
-pub fn map_list<W: Growing>(
+pub fn map_list<W: TreeStore>(
     alloc: Global,
     world: &mut W,
-    frame: Frame<'_>,
+    frame: EvalContext<'_>,
     items: Items,
     parts: &[Plan],
 ) -> Result<Items, Fault>
@@ -218,10 +218,10 @@ pub fn map_list<W: Growing>(
 /// The items of a part at each item. Where it calls a function on each, and all are nodes, no list
 /// is made of each.
 #[cycle(eval)]
-fn each<W: Growing>(
+fn each<W: TreeStore>(
     alloc: Global,
     world: &mut W,
-    frame: Frame<'_>,
+    frame: EvalContext<'_>,
     items: &[Item],
     part: &Plan,
 ) -> Result<Items, Fault>
@@ -233,7 +233,7 @@ fn each<W: Growing>(
         (W.forest world.old) frame.entry) spot)) (focuses (items_at (W.forest world.old) (map
         item_view items.now))) (W.forest world.old)) (W.forest world.new) result }
 {
-    if let Some(told) = told_at_each(alloc, world, items, part)? {
+    if let Some(told) = call_per_node(alloc, world, items, part)? {
         return Ok(told);
     }
     let last = items.len();
@@ -251,10 +251,10 @@ fn each<W: Growing>(
 
 /// The items found so far, and those of a part at one item more.
 #[cycle(eval)]
-fn at_spot<W: Growing>(
+fn at_spot<W: TreeStore>(
     alloc: Global,
     world: &mut W,
-    frame: Frame<'_>,
+    frame: EvalContext<'_>,
     done: Items,
     spot: Focus<'_>,
     part: &Plan,
@@ -269,7 +269,7 @@ fn at_spot<W: Growing>(
         frame.entry) spot)) (items_at (W.forest world.old) (item_views done)) (spot_at
         (W.forest world.old) spot.entry) (W.forest world.old)) (W.forest world.new) result }
 {
-    let inner = Frame {
+    let inner = EvalContext {
         focus: Some(spot),
         ..frame
     };

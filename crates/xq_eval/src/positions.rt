@@ -1,24 +1,24 @@
 //! Predicates whose value at an item its position tells: a number, `last()`, or a comparison of
 //! `position()` with a number (XQuery 3.1, section 3.3.3).
 ghost use Rattle.std.specs.Prelude.{◌≡◌, ◌<◌, ◌^◌, List, ℕ, [], map, length, IfOk, IfSome};
-ghost use Rattle.xq_regions.specs.Items.{item_view};
-ghost use Rattle.xq_regions.specs.Tree.{Tree};
+ghost use Rattle.xq_trees.specs.Items.{item_view};
+ghost use Rattle.xq_trees.specs.Tree.{Tree};
 ghost use Rattle.xq_meaning.specs.declared.plans.Plan.{Plan as PlanLem};
 ghost use Rattle.xq_meaning.specs.declared.plans.Plan.TheVariants as plan_of;
 ghost use Rattle.xq_meaning.specs.Forms as Forms;
 ghost use Rattle.xq_meaning.specs.Operators as Operators;
 ghost use Rattle.xq_meaning.specs.PlanMeaning.{Frame as Meant, plan_mean};
 ghost use Rattle.xq_meaning.specs.Readings.{items_at, AreIn};
-ghost use Rattle.xq_forms.specs.Views.{GivesSequence};
+ghost use Rattle.xq_operators.specs.Views.{GivesSequence};
 ghost use Rattle.xq_eval.specs.private.Positions.{IsPositional, IsPositionalIn, value_there};
 
 use std::alloc::Global;
 use xq_atoms::{Atom, Code, CompOp, Fault, Want, compare_value};
 use xq_expressions::{ComparisonOperator, Function, Relation};
-use xq_forms::{push_copy, single};
 use xq_functions::keeps;
 use xq_meaning::{Operator, Plan};
-use xq_regions::{Item, Items};
+use xq_operators::{push_copy, single};
+use xq_trees::{Item, Items};
 
 /// The value of a predicate at each item, as its position tells it.
 #[derive(Drop)]

@@ -1,11 +1,11 @@
 //! Quantified expressions (XQuery 3.1, section 3.16), with any number of variables: depth first, up
 //! to the first values that decide.
 ghost use Rattle.std.specs.Prelude.{◌≡◌, ◌≤◌, [], map, drop, length, IfOk, IfSome};
-ghost use Rattle.xq_regions.specs.Items.{item_views};
+ghost use Rattle.xq_trees.specs.Items.{item_views};
 ghost use Rattle.xq_meaning.specs.Forms as Forms;
 ghost use Rattle.xq_meaning.specs.PlanMeaning.{Frame as Meant, plan_mean};
 ghost use Rattle.xq_meaning.specs.Readings.{AreIn};
-ghost use Rattle.xq_forms.specs.Views.{frame_at, tuple_at, TupleIn, FrameIn, Goes};
+ghost use Rattle.xq_operators.specs.Views.{frame_at, tuple_at, TupleIn, FrameIn, Goes};
 ghost use Rattle.xq_tuples.specs.Views.{values_of};
 ghost use Rattle.xq_eval.specs.private.Results.{GivesPlain};
 ghost use Rattle.xq_eval.specs.private.Quantifying.{IsOf, bindings};
@@ -16,11 +16,11 @@ use crate::evaluation::{evaluate, tested};
 use std::alloc::Global;
 use std::rc::Rc;
 use xq_atoms::{Fault, Want};
-use xq_forms::Frame;
 use xq_joins::decided_by_key;
 use xq_meaning::Plan;
-use xq_regions::Items;
-use xq_sources::Growing;
+use xq_operators::EvalContext;
+use xq_sources::TreeStore;
+use xq_trees::Items;
 use xq_tuples::SlotValue;
 
 /// Whether the test has the wanted truth for some values of the variables, those of the later ones
@@ -28,10 +28,10 @@ use xq_tuples::SlotValue;
 ///
 /// The stack has the variables that have a value, of which each is in a slot of its own.
 #[cycle(eval)]
-pub fn satisfied<W: Growing>(
+pub fn satisfied<W: TreeStore>(
     alloc: Global,
     world: &mut W,
-    frame: Frame<'_>,
+    frame: EvalContext<'_>,
     whole: &Plan,
     ranges: &[Plan],
     test: &Plan,
@@ -49,7 +49,7 @@ pub fn satisfied<W: Growing>(
     let mut slots = frame.slots.to_vec(alloc)?;
     let mut stack = Vec::new(alloc);
     'turns: loop {
-        let inner = Frame {
+        let inner = EvalContext {
             slots: &slots,
             focus: frame.focus,
             addresses: frame.addresses,
@@ -69,10 +69,10 @@ pub fn satisfied<W: Growing>(
 /// last one those that are undecided; where all have one, no items. `None` if the test has the
 /// wanted truth with these values, or with one of the last variable's.
 #[cycle(eval)]
-fn turn<W: Growing>(
+fn turn<W: TreeStore>(
     alloc: Global,
     world: &mut W,
-    frame: Frame<'_>,
+    frame: EvalContext<'_>,
     whole: &Plan,
     ranges: &[Plan],
     test: &Plan,
@@ -106,7 +106,7 @@ fn turn<W: Growing>(
 
 /// Of the last variable's items those with which the test is still to be evaluated: all, or where
 /// it compares with a key, none. `None` where it has the wanted truth with one of them.
-fn undecided<W: Growing>(
+fn undecided<W: TreeStore>(
     alloc: Global,
     world: &mut W,
     slots: &[SlotValue],

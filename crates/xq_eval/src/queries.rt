@@ -1,16 +1,16 @@
 //! A query's plan.
 ghost use Rattle.std.specs.Prelude.{◌≤◌, [], None, length};
 ghost use Rattle.xq_meaning.specs.PlanMeaning.{Frame as Meant, plan_mean};
-ghost use Rattle.xq_forms.specs.Views.{Goes, GivesSequence};
+ghost use Rattle.xq_operators.specs.Views.{Goes, GivesSequence};
 ghost use Rattle.xq_eval.specs.Reads.{ReadsItsDocument};
 
 use crate::evaluation::evaluate;
 use std::alloc::Global;
 use xq_atoms::Fault;
-use xq_forms::Frame;
 use xq_meaning::Plan;
-use xq_regions::Items;
-use xq_sources::{Addresses, Growing};
+use xq_operators::EvalContext;
+use xq_sources::{Addresses, TreeStore};
+use xq_trees::Items;
 use xq_tuples::SlotValue;
 
 /// The value of a query's plan, and beside it, in `world`, the trees that it constructed, after
@@ -22,7 +22,7 @@ use xq_tuples::SlotValue;
 ///
 /// An error is the code of the query's error, `Want::Memory` where a growth was refused, or
 /// `Want::Store` where the trees could not be read. What was constructed up to then stays.
-pub fn eval<W: Growing>(
+pub fn eval<W: TreeStore>(
     alloc: Global,
     plan: &Plan,
     world: &mut W,
@@ -44,5 +44,10 @@ pub fn eval<W: Growing>(
         (W.meter world.new) }
 {
     let slots: Vec<SlotValue> = Vec::new(alloc);
-    evaluate(alloc, world, Frame::outermost(&slots, addresses), plan)
+    evaluate(
+        alloc,
+        world,
+        EvalContext::outermost(&slots, addresses),
+        plan,
+    )
 }

@@ -2,8 +2,8 @@
 //! values.
 ghost use Rattle.std.specs.Prelude.{◌≡◌, map, IfOk, IfSome, None, Ok};
 ghost use Rattle.std.specs.List.{AllByRecursion};
-ghost use Rattle.xq_regions.specs.Items.{ItemView, item_view};
-ghost use Rattle.xq_regions.specs.Tuples.{Tuple};
+ghost use Rattle.xq_trees.specs.Items.{ItemView, item_view};
+ghost use Rattle.xq_trees.specs.Tuples.{Tuple};
 ghost use Rattle.xq_tuples.specs.Views.{values_of};
 ghost use Rattle.xq_meaning.specs.declared.plans.Plan.{Plan as PlanLem};
 ghost use Rattle.xq_meaning.specs.declared.plans.Plan.TheVariants as plan_of;
@@ -12,7 +12,7 @@ ghost use Rattle.xq_meaning.specs.Doing.{go_on};
 ghost use Rattle.xq_meaning.specs.Forms as Forms;
 ghost use Rattle.xq_meaning.specs.PlanMeaning.{Frame as Meant, plan_mean, plan_step_mean};
 ghost use Rattle.xq_meaning.specs.Readings.{items_at, AreIn};
-ghost use Rattle.xq_forms.specs.Views.{after_double_slash, frame_at, tuple_at, FrameIn, TupleIn, Goes, GivesSequence};
+ghost use Rattle.xq_operators.specs.Views.{after_double_slash, frame_at, tuple_at, FrameIn, TupleIn, Goes, GivesSequence};
 ghost use Rattle.xq_joins.specs.Equalities.{IsTextTest, IsTextTestIn};
 ghost use Rattle.xq_joins.specs.Keyed.{IsKeyedTest};
 ghost use Rattle.xq_joins.specs.Keys.{IsNode};
@@ -20,17 +20,21 @@ ghost use Rattle.xq_eval.specs.private.Texts.{GivesFound};
 
 use std::alloc::Global;
 use xq_atoms::{Fault, Want};
-use xq_forms::{Frame, double_slash};
 use xq_joins::{
     KeyedTest, TextTest, are_nodes, keep_by_key, keep_by_text, keyed_test, only_text_test,
     text_test,
 };
 use xq_meaning::{Plan, Test};
-use xq_regions::{Axis, Item, Items};
-use xq_sources::Growing;
+use xq_operators::{EvalContext, double_slash};
+use xq_sources::TreeStore;
+use xq_trees::{Axis, Item, Items};
 
 /// The test for a text that the predicate is, where all items are nodes: it refuses none of them.
-fn text_test_at<'a>(frame: Frame<'a>, predicate: &'a Plan, items: &[Item]) -> Option<TextTest<'a>>
+fn text_test_at<'a>(
+    frame: EvalContext<'a>,
+    predicate: &'a Plan,
+    items: &[Item],
+) -> Option<TextTest<'a>>
     ensures test { IfSome result (λ test.
         IsTextTest (values_of frame.entry.slots.now) test predicate.now) }
     ensures nodes { IfSome result (λ _. AllByRecursion IsNode (map item_view items.now)) }
@@ -41,10 +45,10 @@ fn text_test_at<'a>(frame: Frame<'a>, predicate: &'a Plan, items: &[Item]) -> Op
 
 /// The items that a predicate keeps which asks nodes for a text, or for those of a key: they are
 /// only read. None where it is no such predicate, or where it may refuse an item.
-pub fn keep_by_texts<W: Growing>(
+pub fn keep_by_texts<W: TreeStore>(
     alloc: Global,
     world: &mut W,
-    frame: Frame<'_>,
+    frame: EvalContext<'_>,
     items: &[Item],
     predicate: &Plan,
 ) -> Result<Option<Items>, Want>
@@ -75,7 +79,7 @@ pub struct TextStep<'a> {
 
 /// What `//` and then a step to children with that predicate lead to from all items: one scan of
 /// what is below them, and then the test. XPTY0019 where an item is no node.
-fn double_slash_by_text<W: Growing>(
+fn double_slash_by_text<W: TreeStore>(
     alloc: Global,
     world: &mut W,
     items: &[Item],
@@ -96,7 +100,7 @@ fn double_slash_by_text<W: Growing>(
 }
 
 /// The same with a predicate that asks for the texts of a key.
-fn double_slash_by_key<W: Growing>(
+fn double_slash_by_key<W: TreeStore>(
     alloc: Global,
     world: &mut W,
     items: &[Item],
@@ -133,10 +137,10 @@ pub struct ChosenChildren<'a> {
 
 /// What `//` and then those children lead to from all items, where their only predicate asks for a
 /// text or for those of a key. None where it is no such predicate.
-pub fn below_by_texts<W: Growing>(
+pub fn below_by_texts<W: TreeStore>(
     alloc: Global,
     world: &mut W,
-    frame: Frame<'_>,
+    frame: EvalContext<'_>,
     items: &[Item],
     chosen: ChosenChildren<'_>,
 ) -> Result<Option<Items>, Fault>

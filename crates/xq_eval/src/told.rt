@@ -2,7 +2,7 @@
 //! atoms are put into one list, and no list is made of each.
 ghost use Rattle.std.specs.Prelude.{◌≡◌, ◌∷◌, [], List, map, true, IfSome};
 ghost use Rattle.xq_atoms.specs.Text.{Text};
-ghost use Rattle.xq_regions.specs.Items.{item_view};
+ghost use Rattle.xq_trees.specs.Items.{item_view};
 ghost use Rattle.xq_functions.specs.Answers.{TellsAtom};
 ghost use Rattle.xq_meaning.specs.declared.plans.Plan.TheVariants as plan_of;
 ghost use Rattle.xq_meaning.specs.Doing.{collected};
@@ -18,11 +18,11 @@ use crate::positions::bare_call;
 use std::alloc::Global;
 use xq_atoms::{Atom, Fault};
 use xq_expressions::Function;
-use xq_forms::{call_on_places, is_told};
 use xq_joins::are_nodes;
 use xq_meaning::Plan;
-use xq_regions::{Item, Items};
+use xq_operators::{call_on_places, is_told};
 use xq_sources::RowLender;
+use xq_trees::{Item, Items};
 
 /// Whether the context item is the only argument of a call.
 fn is_on_context(parts: &[Plan]) -> bool
@@ -86,7 +86,7 @@ fn told_of<L: RowLender>(
 
 /// The items of a part at each item, where it calls a function on each and all are nodes. None
 /// where it is no such part, or where it gives anything but one atom: nothing was refused then.
-pub fn told_at_each<L: RowLender>(
+pub fn call_per_node<L: RowLender>(
     alloc: Global,
     source: &mut L,
     items: &[Item],

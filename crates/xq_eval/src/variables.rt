@@ -2,7 +2,7 @@
 ghost use Rattle.std.specs.Prelude.{◌<◌, vec_len};
 
 use std::rc::Rc;
-use xq_regions::Items;
+use xq_trees::Items;
 
 /// A variable that has a value: what it ranges over, and the place of its value there.
 #[derive(Drop)]

@@ -6,9 +6,9 @@ use Rattle.std.proofs.lemmas.Bool.{false≢true}
 use Rattle.xq_atoms.specs.Judged.{Judged, ◌>>=◌}
 use Rattle.xq_atoms.specs.Text.{Text}
 use Rattle.xq_atoms.specs.Atom.{Atomic}
-use Rattle.xq_regions.specs.declared.items.Item.{Item as CodeItem}
-use Rattle.xq_regions.specs.Items.{Value, item_views}
-use Rattle.xq_regions.specs.Tree.{Tree}
+use Rattle.xq_trees.specs.declared.items.Item.{Item as CodeItem}
+use Rattle.xq_trees.specs.Items.{Value, item_views}
+use Rattle.xq_trees.specs.Tree.{Tree}
 use Rattle.xq_expressions.specs.declared.signatures.Function.{Function}
 use Rattle.xq_expressions.specs.declared.signatures.Function.TheVariants as f
 use Rattle.xq_expressions.specs.declared.operators.ComparisonOperator.{ComparisonOperator}

@@ -10,8 +10,8 @@ use Rattle.xq_atoms.specs.Compare.{Key, Characters, key, key_of, key_eq}
 use Rattle.xq_atoms.specs.Derived.{group_key_eq}
 use Rattle.xq_atoms.specs.Text.{Text}
 use Rattle.xq_atoms.proofs.Keys.{group_key_eq-is}
-use Rattle.xq_regions.specs.Items.{ItemView, Value}
-use Rattle.xq_regions.proofs.Grouping.{list_any-map, firsts-push}
+use Rattle.xq_trees.specs.Items.{ItemView, Value}
+use Rattle.xq_trees.proofs.Grouping.{list_any-map, firsts-push}
 use Rattle.xq_atoms.proofs.KeyOrder.{key_eq_equiv}
 use Rattle.xq_meaning.specs.Functions.{distinct_values}
 use Rattle.xq_functions.specs.private.Running.{Distinct}

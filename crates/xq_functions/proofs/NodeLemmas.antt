@@ -3,21 +3,21 @@ use Rattle.std.proofs.Common.{◌≡◌, ℕ, ◌<◌, List, [], ◌∷◌, Bool
 use Rattle.std.proofs.lemmas.Bool.{eqb-true, eq-eqb, ltb-true, lt-ltb, false≢true, and_parts, and_from, or_cases, or_left, or_right}
 use Rattle.xq_expressions.specs.declared.operators.NodeComparison.{NodeComparison}
 use Rattle.xq_expressions.specs.declared.operators.NodeComparison.TheVariants.{Is, Precedes, Follows}
-use Rattle.xq_regions.specs.declared.items.Node.{Node as Spot}
-use Rattle.xq_regions.specs.Forest.{count}
-use Rattle.xq_regions.specs.Tree.{Tree, nodes}
-use Rattle.xq_regions.specs.Order.{IsBefore, path_at, place_of}
-use Rattle.xq_regions.specs.AxisTests.{is_above, is_left_of, is_same}
-use Rattle.xq_regions.specs.Items.{ItemView, Place, Value}
-use Rattle.xq_regions.proofs.Paths.{at_place}
-use Rattle.xq_regions.proofs.RegionTable.{order_is_places}
+use Rattle.xq_trees.specs.declared.items.Node.{Node as Spot}
+use Rattle.xq_trees.specs.Forest.{count}
+use Rattle.xq_trees.specs.Tree.{Tree, nodes}
+use Rattle.xq_trees.specs.Order.{IsBefore, path_at, place_of}
+use Rattle.xq_trees.specs.AxisTests.{is_above, is_left_of, is_same}
+use Rattle.xq_trees.specs.Items.{ItemView, Place, Value}
+use Rattle.xq_trees.proofs.Paths.{at_place}
+use Rattle.xq_trees.proofs.RegionTable.{order_is_places}
 use Rattle.xq_sources.specs.Sources.{HasNode, tree_at}
 use Rattle.xq_meaning.specs.Items.{comes_first, nodes_at}
 use Rattle.xq_meaning.specs.Readings.{items_at, node_at, AreIn}
 use Rattle.xq_meaning.specs.Arguments.{boolean}
 use Rattle.xq_meaning.specs.Operators.{by_nodes, stand}
 use Rattle.xq_functions.specs.private.Nodes as places
-use Rattle.xq_regions.proofs.Lists.{same_test}
+use Rattle.xq_trees.proofs.Lists.{same_test}
 
 first_is : (p q : List ℕ) → (comes_first p q ≡ true) ↔ IsBefore p q
 first_is [] [] = (λ e. absurd (false≢true e), λ h. absurd h)

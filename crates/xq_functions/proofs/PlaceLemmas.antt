@@ -8,11 +8,11 @@ use Rattle.std.specs.Ordering.{nat_cmp, ordering_then, ordering_reverse, is_eq, 
 use Rattle.std.specs.Cmp.{IsTotalOrder, nat_cmp_is}
 use Rattle.std.specs.declared.cmp.Ordering.TheVariants.{Less, Equal, Greater}
 use Rattle.std.proofs.lemmas.Bool.{eqb-true, eq-eqb, false≢true, and_parts, and_from, and_right, or_cases, cases_lt, or_left, or_right}
-use Rattle.xq_regions.specs.declared.items.Node.{Node as Spot}
-use Rattle.xq_regions.specs.contracts.items.NodeOrd.TheImpl.Laws as law
-use Rattle.xq_regions.specs.Rising.{document_order, AreRising}
+use Rattle.xq_trees.specs.declared.items.Node.{Node as Spot}
+use Rattle.xq_trees.specs.contracts.items.NodeOrd.TheImpl.Laws as law
+use Rattle.xq_trees.specs.Rising.{document_order, AreRising}
 use Rattle.xq_functions.specs.private.Places.{same_spot, is_among}
-use Rattle.xq_regions.proofs.Lists.{all_append}
+use Rattle.xq_trees.proofs.Lists.{all_append}
 
 abbrev pub spot : ℕ → ℕ → Spot
 spot tree pre = record { tree = tree; pre = pre }

@@ -14,23 +14,23 @@ use Rattle.xq_atoms.specs.Judged.{Judged, ◌>>=◌}
 use Rattle.xq_expressions.specs.declared.operators.NodeComparison.TheVariants.{Is}
 use Rattle.xq_expressions.specs.declared.operators.SetOperator.{SetOperator}
 use Rattle.xq_expressions.specs.declared.operators.SetOperator.TheVariants.{Intersect, Except}
-use Rattle.xq_regions.specs.declared.items.Node.{Node as CodeNode}
-use Rattle.xq_regions.specs.Forest.{count}
-use Rattle.xq_regions.specs.Tree.{Tree, nodes}
-use Rattle.xq_regions.specs.Order.{path_at}
-use Rattle.xq_regions.specs.Items.{ItemView, Place as NodeAt, Value}
+use Rattle.xq_trees.specs.declared.items.Node.{Node as CodeNode}
+use Rattle.xq_trees.specs.Forest.{count}
+use Rattle.xq_trees.specs.Tree.{Tree, nodes}
+use Rattle.xq_trees.specs.Order.{path_at}
+use Rattle.xq_trees.specs.Items.{ItemView, Place as NodeAt, Value}
 use Rattle.xq_sources.specs.Sources.{HasNode, tree_at}
 use Rattle.xq_meaning.specs.Items.{Place, Node, place, paths, places_from, is_among as has_place, in_document_order}
 use Rattle.xq_meaning.specs.Readings.{item_at, items_at, AreIn}
 use Rattle.xq_meaning.specs.Arguments.{all_nodes}
 use Rattle.xq_meaning.specs.Operators.{from_nodes, in_order, set_of, gathered, nodes_or_atoms, are_atoms, all_atoms}
-use Rattle.xq_regions.specs.declared.items.Node.{Node as Spot}
-use Rattle.xq_regions.specs.Rising.{document_order, AreRising}
+use Rattle.xq_trees.specs.declared.items.Node.{Node as Spot}
+use Rattle.xq_trees.specs.Rising.{document_order, AreRising}
 use Rattle.xq_functions.specs.private.Places.{view, place_at, all_spots, SpotsAreIn, same_spot, is_among, IsInOrder, takes, united, selected}
 use Rattle.xq_functions.proofs.NodeLemmas.{stands-same}
 use Rattle.xq_meaning.proofs.PathLemmas.{map-map, filter-map, paths-range}
 use Rattle.xq_functions.proofs.PlaceLemmas.{spot, run, unique, among-filter, run-beyond, run-rises, run-among, same-from}
-use Rattle.xq_regions.proofs.Lists.{all_append, all_weaker, all_filter}
+use Rattle.xq_trees.proofs.Lists.{all_append, all_weaker, all_filter}
 
 -- # All places
 

@@ -5,7 +5,7 @@ use Rattle.std.proofs.lemmas.Slice.Eq.{starts_is}
 use Rattle.std.proofs.lemmas.Bool.{false≢true, false_from_ne_true, or_cases, or_right}
 use Rattle.std.proofs.lemmas.Bool.Decides.{Decides-eqb}
 use Rattle.xq_atoms.specs.Text.{Text}
-use Rattle.xq_regions.specs.Names.{holds}
+use Rattle.xq_trees.specs.Names.{holds}
 use Rattle.xq_meaning.specs.Texts.{begins, before_first, after_first, substring_after}
 
 -- what the test for a beginning says

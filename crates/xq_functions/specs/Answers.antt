@@ -6,9 +6,9 @@ use Rattle.xq_atoms.specs.declared.atoms.Atom.{Atom}
 use Rattle.xq_atoms.specs.Atom.{Atomic, atomic_of}
 use Rattle.xq_atoms.specs.Answers.{Gives, IsRefusalOr}
 use Rattle.xq_atoms.specs.Judged.{Judged}
-use Rattle.xq_regions.specs.declared.items.Item.{Item as CodeItem}
-use Rattle.xq_regions.specs.Items.{item_view, item_views}
-use Rattle.xq_regions.specs.Tree.{Tree}
+use Rattle.xq_trees.specs.declared.items.Item.{Item as CodeItem}
+use Rattle.xq_trees.specs.Items.{item_view, item_views}
+use Rattle.xq_trees.specs.Tree.{Tree}
 use Rattle.xq_meaning.specs.Arguments.{atomic}
 use Rattle.xq_meaning.specs.Items.{Item}
 use Rattle.xq_meaning.specs.Readings.{items_at}

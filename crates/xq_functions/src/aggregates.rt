@@ -11,7 +11,7 @@ ghost use Rattle.xq_functions.specs.private.Running.{is_better as is_better_lem}
 use crate::results::one;
 use std::alloc::Global;
 use xq_atoms::{Atom, Code, CompOp, Fault, add, compare_value};
-use xq_regions::Items;
+use xq_trees::Items;
 
 /// The sum of numbers, 0 of none (fn:sum). All atoms are judged before the first is added:
 /// prof:DOUBLE for an untyped value, FORG0006 for a string or a boolean. FOAR0002 out of range.

@@ -13,7 +13,7 @@ use crate::results::one;
 use std::alloc::Global;
 use xq_atoms::{Atom, Code, Fault, add, cast_int, div, idiv, mod_, mul, neg, sub};
 use xq_expressions::{ProductOperator, Sign};
-use xq_regions::{Item, Items};
+use xq_trees::{Item, Items};
 
 /// The most items that a range may have.
 const MAX_RANGE: u128 = 1_000_000;

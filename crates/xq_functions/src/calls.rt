@@ -2,7 +2,7 @@
 ghost use Rattle.std.specs.Prelude.{◌≡◌, ◌≤◌, ◌∷◌, [], List, Option, map, length, true};
 ghost use Rattle.xq_atoms.specs.Text.{Text};
 ghost use Rattle.xq_atoms.specs.Atom.{atomic_of};
-ghost use Rattle.xq_regions.specs.Tree.{Tree};
+ghost use Rattle.xq_trees.specs.Tree.{Tree};
 ghost use Rattle.xq_meaning.specs.Items.{Item as ItemSeen, atomized};
 ghost use Rattle.xq_meaning.specs.Functions as Functions;
 ghost use Rattle.xq_meaning.specs.Operators as Operators;
@@ -21,6 +21,7 @@ use crate::positions::character_count;
 use crate::results::one;
 use crate::sequences::{exactly_one, head, one_or_more, reversed, tail, zero_or_one};
 use crate::texts;
+use crate::truths::effective;
 use crate::words::normalized;
 use std::alloc::Global;
 use xq_atoms::{
@@ -28,8 +29,7 @@ use xq_atoms::{
 };
 use xq_expressions::{ComparisonOperator, Function, Relation};
 use xq_meaning::Operator;
-use xq_regions::Items;
-use xq_truths::effective;
+use xq_trees::Items;
 
 /// A call with one argument of a function that looks at items whatever they are.
 pub fn call_on_items(alloc: Global, function: Function, items: Items) -> Result<Items, Fault>

@@ -11,7 +11,7 @@ use crate::texts::piece;
 use std::alloc::Global;
 use xq_atoms::{Atom, Code, CompOp, Fault, compare_general, compare_value};
 use xq_expressions::Relation;
-use xq_regions::Items;
+use xq_trees::Items;
 
 /// The comparison that a relation asks for.
 fn related_by(relation: Relation) -> CompOp

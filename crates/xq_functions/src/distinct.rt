@@ -3,14 +3,14 @@ ghost use Rattle.std.specs.Prelude.{◌≡◌, ◌++◌, ◌∷◌, [], map, IfO
 ghost use Rattle.std.specs.List.{list_any};
 ghost use Rattle.xq_atoms.specs.Atom.{atomic_of};
 ghost use Rattle.xq_atoms.specs.Compare.{key, Characters};
-ghost use Rattle.xq_regions.specs.Items.{Value, item_views};
+ghost use Rattle.xq_trees.specs.Items.{Value, item_views};
 ghost use Rattle.xq_meaning.specs.Functions as Functions;
 ghost use Rattle.xq_functions.specs.Answers.{atomics};
 
 use indexmap::IndexSet;
 use std::alloc::Global;
 use xq_atoms::{Atom, GroupKey, Want};
-use xq_regions::{Item, Items};
+use xq_trees::{Item, Items};
 
 /// The characters of a string, also of one without a type.
 fn characters_of(atom: &Atom) -> Option<&str>

@@ -1,6 +1,6 @@
 //! Documents by their addresses (F&O 3.1, section 14.6).
 ghost use Rattle.std.specs.Prelude.{◌≡◌, List, IfOk, IfErr};
-ghost use Rattle.xq_regions.specs.Tree.{Tree};
+ghost use Rattle.xq_trees.specs.Tree.{Tree};
 ghost use Rattle.xq_meaning.specs.Functions as Functions;
 ghost use Rattle.xq_functions.specs.Answers.{GivesItems, atomics, items_of, lent_items};
 ghost use Rattle.xq_atoms.specs.Answers.{Gives};
@@ -10,8 +10,8 @@ use crate::arguments::{optional, text_argument};
 use crate::results::one;
 use std::alloc::Global;
 use xq_atoms::{Atom, Code, Fault, Want, address_ok};
-use xq_regions::{Item, Items, Node};
 use xq_sources::Addresses;
+use xq_trees::{Item, Items, Node};
 
 /// The document node at the address (fn:doc), nothing for nothing; the first trees are the
 /// documents, in the order of `addresses`, in which the address is looked up by halves. FODC0005

@@ -18,6 +18,7 @@ mod results;
 mod sequences;
 mod sets;
 mod texts;
+mod truths;
 mod words;
 
 pub use arithmetic::signed;
@@ -27,4 +28,4 @@ pub use kinds::{Argument, argument_of, is_on_atoms};
 pub use nodes::compare_nodes;
 pub use parts::joined;
 pub use sets::{gather, select_nodes, unite_nodes};
-pub use xq_truths::{effective, keeps};
+pub use truths::{effective, keeps};

@@ -1,7 +1,7 @@
 //! Comparisons of nodes by identity and by document order (XQuery 3.1, section 3.7.3).
 ghost use Rattle.std.specs.Prelude.{◌≡◌, List, map};
-ghost use Rattle.xq_regions.specs.Items.{item_view};
-ghost use Rattle.xq_regions.specs.Tree.{Tree};
+ghost use Rattle.xq_trees.specs.Items.{item_view};
+ghost use Rattle.xq_trees.specs.Tree.{Tree};
 ghost use Rattle.xq_meaning.specs.Readings.{AreIn};
 ghost use Rattle.xq_meaning.specs.Operators as Operators;
 ghost use Rattle.xq_functions.specs.Answers.{GivesItems, items_of, lent_items};
@@ -12,7 +12,7 @@ use crate::results::one;
 use std::alloc::Global;
 use xq_atoms::{Atom, Code, Fault};
 use xq_expressions::NodeComparison;
-use xq_regions::{Item, Items, Node};
+use xq_trees::{Item, Items, Node};
 
 /// `is`, `<<` and `>>` of one node with another, nothing where an operand is nothing. XPTY0004 for
 /// an atom and for more than one item. Trees stand by their numbers, the nodes of one tree by

@@ -2,7 +2,7 @@
 ghost use Rattle.std.specs.Prelude.{◌≡◌, ◌++◌, map, IfOk, IfErr, OnOk, string_bytes};
 ghost use Rattle.xq_atoms.specs.Atom.{atomic_of};
 ghost use Rattle.xq_atoms.specs.Cast.{text_of};
-ghost use Rattle.xq_regions.specs.Names.{holds};
+ghost use Rattle.xq_trees.specs.Names.{holds};
 ghost use Rattle.xq_meaning.specs.Texts as Texts;
 
 use std::alloc::Global;

@@ -1,11 +1,11 @@
 //! Values of one item.
 ghost use Rattle.std.specs.Prelude.{◌≡◌, ◌∷◌, [], IfOk, IfErr};
 ghost use Rattle.xq_atoms.specs.Atom.{atomic_of};
-ghost use Rattle.xq_regions.specs.Items.{Value, item_views};
+ghost use Rattle.xq_trees.specs.Items.{Value, item_views};
 
 use std::alloc::Global;
 use xq_atoms::{Atom, Want};
-use xq_regions::{Item, Items};
+use xq_trees::{Item, Items};
 
 /// The sequence of one atom.
 pub fn one(alloc: Global, atom: Atom) -> Result<Items, Want>

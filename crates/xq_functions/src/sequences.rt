@@ -1,12 +1,12 @@
 //! Functions on sequences (F&O 3.1, sections 14.1 and 14.2), whatever their items are.
 ghost use Rattle.std.specs.Prelude.{◌≡◌, List, reverse};
-ghost use Rattle.xq_regions.specs.Tree.{Tree};
+ghost use Rattle.xq_trees.specs.Tree.{Tree};
 ghost use Rattle.xq_meaning.specs.Functions as Functions;
 ghost use Rattle.xq_functions.specs.Answers.{items_of};
 ghost use Rattle.xq_functions.specs.Judgements.{judged_as};
 
 use xq_atoms::Code;
-use xq_regions::Items;
+use xq_trees::Items;
 
 /// The first item, or nothing (fn:head).
 pub fn head(mut items: Items) -> Items

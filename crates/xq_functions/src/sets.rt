@@ -1,9 +1,9 @@
 //! Nodes put together (XQuery 3.1, section 3.4.2), and nodes in document order (XDM 3.1,
 //! section 2.4).
 ghost use Rattle.std.specs.Prelude.{◌≡◌, Bool, List, filter, map, IfOk, IfErr};
-ghost use Rattle.xq_regions.specs.Items.{item_view, item_views};
-ghost use Rattle.xq_regions.specs.Rising.{AreRising};
-ghost use Rattle.xq_regions.specs.Tree.{Tree};
+ghost use Rattle.xq_trees.specs.Items.{item_view, item_views};
+ghost use Rattle.xq_trees.specs.Rising.{AreRising};
+ghost use Rattle.xq_trees.specs.Tree.{Tree};
 ghost use Rattle.xq_meaning.specs.Readings.{AreIn, items_at};
 ghost use Rattle.xq_meaning.specs.declared.operators.Operator.TheVariants as operators;
 ghost use Rattle.xq_meaning.specs.Operators as Operators;
@@ -14,7 +14,7 @@ ghost use Rattle.xq_functions.specs.private.Places as Places;
 use std::alloc::{AllocError, Global};
 use xq_atoms::{Code, Fault, Want};
 use xq_expressions::SetOperator;
-use xq_regions::{Item, Items, Node, merge};
+use xq_trees::{Item, Items, Node, merge};
 
 /// The nodes of both operands in document order, each once. XPTY0004 for an atom.
 pub fn unite_nodes(alloc: Global, left: &[Item], right: &[Item]) -> Result<Items, Fault>

@@ -14,7 +14,7 @@ use crate::{parts, positions, words};
 use std::alloc::Global;
 use xq_atoms::{Atom, Fault, cast_str};
 use xq_expressions::Function;
-use xq_regions::Items;
+use xq_trees::Items;
 
 /// How many characters the string has (fn:string-length).
 pub fn string_length(alloc: Global, atoms: &[Atom]) -> Result<Items, Fault>

@@ -7,10 +7,10 @@ use Rattle.std.proofs.lemmas.List.Concat.{flat_map-cons}
 use Rattle.xq_atoms.specs.Atom.{Atomic}
 use Rattle.xq_expressions.specs.declared.operators.AllowingEmpty.{AllowingEmpty}
 use Rattle.xq_expressions.specs.declared.operators.AllowingEmpty.TheVariants as allowing
-use Rattle.xq_regions.specs.Items.{ItemView, Place as NodeAt, Value}
-use Rattle.xq_regions.specs.Tree.{Tree}
-use Rattle.xq_regions.specs.Tuples.{Tuple, expanded, item_values, satisfying, with_items, value_at}
-use Rattle.xq_regions.proofs.Lists.{all_append, all_filter, all_weaker}
+use Rattle.xq_trees.specs.Items.{ItemView, Place as NodeAt, Value}
+use Rattle.xq_trees.specs.Tree.{Tree}
+use Rattle.xq_trees.specs.Tuples.{Tuple, expanded, item_values, satisfying, with_items, value_at}
+use Rattle.xq_trees.proofs.Lists.{all_append, all_filter, all_weaker}
 use Rattle.xq_meaning.specs.declared.plans.Plan.{Plan}
 use Rattle.xq_meaning.specs.declared.plans.PlanClause.{PlanClause}
 use Rattle.xq_meaning.specs.declared.plans.PlanClause.TheVariants as clause
@@ -21,10 +21,10 @@ use Rattle.xq_meaning.specs.PlanMeaning.{Frame, at_tuple, plan_mean, plan_clause
 use Rattle.xq_meaning.specs.Readings.{node_at, item_at, items_at, IsIn, AreIn}
 use Rattle.xq_meaning.proofs.PathLemmas.{map-map, filter-map}
 use Rattle.xq_meaning.proofs.PlanEquations.{clause-For, clause-Where}
-use Rattle.xq_forms.specs.Views.{tuple_at, tuples_at, TupleIn}
-use Rattle.xq_forms.proofs.Growth.{map_same}
-use Rattle.xq_forms.proofs.Natural.{expanded_natural, kept_natural}
-use Rattle.xq_forms.proofs.Streams.{value_read}
+use Rattle.xq_operators.specs.Views.{tuple_at, tuples_at, TupleIn}
+use Rattle.xq_operators.proofs.Growth.{map_same}
+use Rattle.xq_operators.proofs.Natural.{expanded_natural, kept_natural}
+use Rattle.xq_operators.proofs.Streams.{value_read}
 use Rattle.xq_joins.specs.declared.joins.Join.{Join}
 use Rattle.xq_joins.specs.Joins.{start_value, IsFrom, IsTest, Fits, first_of, AreJoin, matched, all_matched}
 use Rattle.xq_joins.specs.Keys.{IsNode, places_among, texts_from, meet}

@@ -2,11 +2,11 @@
 use Rattle.std.proofs.Common.{◌≡◌, ℕ, ◌<◌, List, [], ◌∷◌, ◌++◌, length, map, Bool, true, false, not, Ok, refl, sym, ◌∙◌, ap, subst, arith}
 use Rattle.std.specs.List.{AllByRecursion}
 use Rattle.std.proofs.lemmas.List.{length-map}
-use Rattle.xq_regions.specs.declared.Axis.{Axis}
-use Rattle.xq_regions.specs.declared.items.Node.{Node as Spot}
-use Rattle.xq_regions.specs.Items.{ItemView, Place as NodeAt, Value}
-use Rattle.xq_regions.specs.Tree.{Tree}
-use Rattle.xq_regions.specs.Tuples.{Tuple, value_at}
+use Rattle.xq_trees.specs.declared.Axis.{Axis}
+use Rattle.xq_trees.specs.declared.items.Node.{Node as Spot}
+use Rattle.xq_trees.specs.Items.{ItemView, Place as NodeAt, Value}
+use Rattle.xq_trees.specs.Tree.{Tree}
+use Rattle.xq_trees.specs.Tuples.{Tuple, value_at}
 use Rattle.xq_meaning.specs.declared.node_tests.Test.{Test}
 use Rattle.xq_meaning.specs.declared.plans.Plan.{Plan}
 use Rattle.xq_meaning.specs.declared.plans.PlanStep.{PlanStep}
@@ -18,7 +18,7 @@ use Rattle.xq_meaning.specs.PlanMeaning.{Frame, opened, plan_mean}
 use Rattle.xq_meaning.specs.Readings.{node_at, items_at, AreIn}
 use Rattle.xq_meaning.specs.Steps.{axis_nodes}
 use Rattle.xq_sources.specs.Sources.{HasNode}
-use Rattle.xq_forms.specs.Views.{tuple_at}
+use Rattle.xq_operators.specs.Views.{tuple_at}
 use Rattle.xq_joins.specs.declared.joins.Join.{Join}
 use Rattle.xq_joins.specs.declared.keyed.Keyed.{Keyed}
 use Rattle.xq_joins.specs.declared.keyed.KeyedTest.{KeyedTest}

@@ -8,9 +8,9 @@ use Rattle.xq_atoms.specs.Address.{IsAddress}
 use Rattle.xq_atoms.specs.Judged.{◌>>=◌, only_if}
 use Rattle.xq_atoms.specs.Text.{Text}
 use Rattle.xq_axes.specs.Many.{spot}
-use Rattle.xq_regions.specs.declared.items.Node.{Node as Spot}
-use Rattle.xq_regions.specs.Items.{ItemView, Place as NodeAt}
-use Rattle.xq_regions.specs.Tree.{Tree}
+use Rattle.xq_trees.specs.declared.items.Node.{Node as Spot}
+use Rattle.xq_trees.specs.Items.{ItemView, Place as NodeAt}
+use Rattle.xq_trees.specs.Tree.{Tree}
 use Rattle.xq_expressions.specs.declared.signatures.Function.TheVariants as function
 use Rattle.xq_sources.specs.Addresses.{Rise}
 use Rattle.xq_sources.specs.Sources.{HasNode}
@@ -24,11 +24,10 @@ use Rattle.xq_meaning.specs.PlanMeaning.{Frame, plan_mean, plan_step_mean, next_
 use Rattle.xq_meaning.specs.Readings.{node_at, item_at}
 use Rattle.xq_meaning.proofs.PathLemmas.{map-map}
 use Rattle.xq_meaning.proofs.PlanEquations.{plan-Call, plan-Path, plan-Str}
-use Rattle.xq_functions.specs.private.Documents.{document_at}
 use Rattle.xq_functions.proofs.DocumentLemmas.{is_address-true, document_found}
-use Rattle.xq_forms.specs.declared.frames.Frame.{Frame as HeldFrame}
-use Rattle.xq_forms.specs.Runs.{views_of, ScansGive}
-use Rattle.xq_forms.specs.Views.{frame_at, nodes_in, FrameIn}
+use Rattle.xq_operators.specs.declared.contexts.EvalContext.{EvalContext as HeldFrame}
+use Rattle.xq_operators.specs.Runs.{views_of, ScansGive}
+use Rattle.xq_operators.specs.Views.{frame_at, nodes_in, FrameIn}
 use Rattle.xq_joins.specs.declared.paths.DocumentPath.{DocumentPath}
 use Rattle.xq_joins.specs.private.Paths.{IsDocument, IsDocumentPath}
 
@@ -42,7 +41,7 @@ found_document addresses address tree good rise at =
       first = refl;
       within = slice_get_within addresses tree address at;
       is = ap (λ b. only_if b FODC0005 address >>= (λ t. document_from 0 addresses t)) (is_address-true address good)
-          ∙ sym (document_found 0 addresses tree address rise at) ∙ ap (λ n. document_at (Ok n)) number;
+          ∙ sym (document_found 0 addresses tree address rise at) ∙ ap (λ n. Ok (Node (root_of n) ∷ [])) number;
     }
 
 -- a call with a literal

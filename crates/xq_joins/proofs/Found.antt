@@ -7,15 +7,15 @@ use Rattle.std.specs.List.{AllByRecursion, Contains, list_any}
 use Rattle.std.proofs.lemmas.List.Folds.{list_any-append}
 use Rattle.std.proofs.lemmas.List.Kept.{IsStrictlySortedBy-filter}
 use Rattle.xq_atoms.specs.Text.{Text}
-use Rattle.xq_regions.specs.declared.items.Node.{Node}
-use Rattle.xq_regions.specs.Items.{ItemView, Place, Value}
-use Rattle.xq_regions.specs.Rising.{document_order, AreRising}
-use Rattle.xq_regions.specs.Tree.{Tree}
-use Rattle.xq_regions.proofs.Rising.{same_any, same_rising}
+use Rattle.xq_trees.specs.declared.items.Node.{Node}
+use Rattle.xq_trees.specs.Items.{ItemView, Place, Value}
+use Rattle.xq_trees.specs.Rising.{document_order, AreRising}
+use Rattle.xq_trees.specs.Tree.{Tree}
+use Rattle.xq_trees.proofs.Rising.{same_any, same_rising}
 use Rattle.xq_meaning.specs.declared.plans.PlanStep.{PlanStep}
 use Rattle.xq_meaning.specs.Readings.{node_at}
 use Rattle.xq_meaning.proofs.PathLemmas.{filter-map}
-use Rattle.xq_forms.specs.Nodes.{nodes_among}
+use Rattle.xq_operators.specs.Nodes.{nodes_among}
 use Rattle.xq_joins.specs.Keys.{IsNode, meet, places_among, texts_from}
 use Rattle.xq_joins.specs.private.Tables.{nodes_with, has_key, IsTable}
 use Rattle.xq_joins.proofs.Meeting.{any_same, any_swap, meet_swap}

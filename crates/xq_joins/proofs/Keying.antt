@@ -2,9 +2,9 @@
 use Rattle.std.proofs.Common.{◌≡◌, ℕ, List, [], map, false, Ok, refl, sym, ◌∙◌, ap}
 use Rattle.std.specs.Prelude.{filter}
 use Rattle.std.specs.List.{AllByRecursion}
-use Rattle.xq_regions.specs.Items.{ItemView, Place as NodeAt, Value}
-use Rattle.xq_regions.specs.Tree.{Tree}
-use Rattle.xq_regions.specs.Tuples.{Tuple, value_at}
+use Rattle.xq_trees.specs.Items.{ItemView, Place as NodeAt, Value}
+use Rattle.xq_trees.specs.Tree.{Tree}
+use Rattle.xq_trees.specs.Tuples.{Tuple, value_at}
 use Rattle.xq_meaning.specs.declared.plans.Plan.{Plan}
 use Rattle.xq_meaning.specs.declared.plans.Plan.TheVariants as plan
 use Rattle.xq_meaning.specs.Arguments.{boolean}
@@ -12,8 +12,8 @@ use Rattle.xq_meaning.specs.Items.{Place, Node}
 use Rattle.xq_meaning.specs.PlanMeaning.{Frame, plan_mean}
 use Rattle.xq_meaning.specs.Readings.{node_at}
 use Rattle.xq_meaning.specs.Steps.{axis_nodes, is_reverse}
-use Rattle.xq_forms.proofs.Streams.{value_read}
-use Rattle.xq_forms.specs.Views.{tuple_at}
+use Rattle.xq_operators.proofs.Streams.{value_read}
+use Rattle.xq_operators.specs.Views.{tuple_at}
 use Rattle.xq_joins.specs.declared.equalities.TextTest.{TextTest}
 use Rattle.xq_joins.specs.declared.keyed.Keyed.{Keyed}
 use Rattle.xq_joins.specs.declared.keyed.KeyedTest.{KeyedTest}

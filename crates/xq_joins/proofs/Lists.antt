@@ -4,8 +4,8 @@ use Rattle.std.specs.Prelude.{IfOk}
 use Rattle.std.specs.List.{AllByRecursion}
 use Rattle.std.proofs.lemmas.List.{map-append, take_all}
 use Rattle.std.proofs.Math.Seq.{drop-cons}
-use Rattle.xq_regions.proofs.Lists.{all_append}
-use Rattle.xq_forms.proofs.Lists.{taken_next}
+use Rattle.xq_trees.proofs.Lists.{all_append}
+use Rattle.xq_operators.proofs.Lists.{taken_next}
 
 -- what is left begins with the element at the index
 pub left_first : {X : Type 0} (xs : List X) (i : ℕ) (x : X) → i < length xs → x ≡ get_or xs i x → drop i xs ≡ x ∷ drop (i + 1) xs

@@ -1,17 +1,17 @@
 -- The text of a node that has one row below it.
 use Rattle.std.proofs.Common.{◌≡◌, ℕ, ◌+◌, ◌<◌, min, List, [], ◌∷◌, ◌++◌, length, true, sym, ◌∙◌, ap, subst, arith}
 use Rattle.std.proofs.lemmas.List.{append-nil}
-use Rattle.xq_regions.specs.declared.Kind.TheVariants.{Text}
+use Rattle.xq_trees.specs.declared.Kind.TheVariants.{Text}
 use Rattle.xq_sources.specs.declared.lent.LentRow.{LentRow}
 use Rattle.xq_sources.specs.Lent.{placed_lent, row_lent}
-use Rattle.xq_regions.specs.declared.items.Node.{Node as Spot}
-use Rattle.xq_regions.specs.Forest.{count}
-use Rattle.xq_regions.specs.Node.{below_at}
-use Rattle.xq_regions.specs.Order.{path_at}
-use Rattle.xq_regions.specs.Rows.{Row, row_at, rows}
-use Rattle.xq_regions.specs.Tree.{Tree, IsTree, nodes}
-use Rattle.xq_regions.specs.Value.{text_of, texts, string_value}
-use Rattle.xq_regions.proofs.Encoding.{length-rows}
+use Rattle.xq_trees.specs.declared.items.Node.{Node as Spot}
+use Rattle.xq_trees.specs.Forest.{count}
+use Rattle.xq_trees.specs.Node.{below_at}
+use Rattle.xq_trees.specs.Order.{path_at}
+use Rattle.xq_trees.specs.Rows.{Row, row_at, rows}
+use Rattle.xq_trees.specs.Tree.{Tree, IsTree, nodes}
+use Rattle.xq_trees.specs.Value.{text_of, texts, string_value}
+use Rattle.xq_trees.proofs.Encoding.{length-rows}
 use Rattle.xq_sources.specs.Sources.{tree_at, HasNode}
 use Rattle.xq_meaning.specs.Items.{tree_below}
 use Rattle.xq_meaning.specs.Readings.{node_at}

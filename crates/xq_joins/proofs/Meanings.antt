@@ -2,8 +2,8 @@
 use Rattle.std.proofs.Common.{◌≡◌, ℕ, List, [], ◌∷◌, ◌++◌, map, Bool, Option, Some, None, Ok, inl, inr, refl, sym, ◌∙◌, ap, subst}
 use Rattle.std.specs.List.{AllByRecursion}
 use Rattle.xq_atoms.specs.Atom.{String}
-use Rattle.xq_regions.specs.Tree.{Tree}
-use Rattle.xq_regions.specs.Tuples.{value_at}
+use Rattle.xq_trees.specs.Tree.{Tree}
+use Rattle.xq_trees.specs.Tuples.{value_at}
 use Rattle.xq_expressions.specs.declared.operators.ComparisonOperator.TheVariants as comparing
 use Rattle.xq_expressions.specs.declared.operators.Relation.TheVariants as relation
 use Rattle.xq_expressions.specs.declared.signatures.Function.{Function}

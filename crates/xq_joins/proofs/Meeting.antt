@@ -8,11 +8,11 @@ use Rattle.xq_atoms.specs.Atom.{Atomic, Integer, Decimal, String, Boolean, Untyp
 use Rattle.xq_atoms.specs.Compare.{compare_general}
 use Rattle.xq_atoms.specs.Judged.{◌>>=◌}
 use Rattle.xq_atoms.specs.Text.{Text, text_eq}
-use Rattle.xq_regions.specs.declared.Kind.{Kind}
-use Rattle.xq_regions.specs.declared.Kind.TheVariants as kind
-use Rattle.xq_regions.specs.Tree.{Tree}
-use Rattle.xq_regions.specs.Value.{typed_by}
-use Rattle.xq_regions.proofs.Lists.{same_test}
+use Rattle.xq_trees.specs.declared.Kind.{Kind}
+use Rattle.xq_trees.specs.declared.Kind.TheVariants as kind
+use Rattle.xq_trees.specs.Tree.{Tree}
+use Rattle.xq_trees.specs.Value.{typed_by}
+use Rattle.xq_trees.proofs.Lists.{same_test}
 use Rattle.xq_meaning.specs.Items.{Place, Node, atomic_value, atom_of, atomized, tree_below}
 use Rattle.xq_meaning.specs.Operators.{or_rest, some_with, some_pair}
 use Rattle.xq_joins.specs.Equalities.{have_text}

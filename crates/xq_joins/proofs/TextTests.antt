@@ -12,13 +12,13 @@ use Rattle.xq_atoms.specs.declared.comparisons.CompOp.TheVariants as comp
 use Rattle.xq_atoms.specs.declared.refusals.Code.TheVariants.{XPTY0018, XPTY0019}
 use Rattle.xq_expressions.specs.declared.operators.ComparisonOperator.TheVariants as comparing
 use Rattle.xq_expressions.specs.declared.operators.Relation.TheVariants as relation
-use Rattle.xq_regions.specs.Forest.{end}
-use Rattle.xq_regions.specs.Items.{ItemView, Place as NodeAt}
-use Rattle.xq_regions.specs.Tree.{Tree}
-use Rattle.xq_regions.specs.Tuples.{Tuple, value_at}
-use Rattle.xq_regions.specs.declared.Axis.{Axis}
-use Rattle.xq_regions.specs.declared.Axis.TheVariants as axis
-use Rattle.xq_regions.proofs.AxisTable.{on_axis_is}
+use Rattle.xq_trees.specs.Forest.{end}
+use Rattle.xq_trees.specs.Items.{ItemView, Place as NodeAt}
+use Rattle.xq_trees.specs.Tree.{Tree}
+use Rattle.xq_trees.specs.Tuples.{Tuple, value_at}
+use Rattle.xq_trees.specs.declared.Axis.{Axis}
+use Rattle.xq_trees.specs.declared.Axis.TheVariants as axis
+use Rattle.xq_trees.proofs.AxisTable.{on_axis_is}
 use Rattle.xq_meaning.specs.declared.node_tests.Test.{Test}
 use Rattle.xq_meaning.specs.declared.node_tests.Test.TheVariants as test
 use Rattle.xq_meaning.specs.declared.operators.Operator.TheVariants as operator
@@ -42,15 +42,15 @@ use Rattle.xq_axes.proofs.AxisNodes.{filter_agree}
 use Rattle.xq_axes.proofs.Many.{from_one}
 use Rattle.xq_axes.proofs.Merging.{any_filter}
 use Rattle.xq_axes.specs.DoubleSlash.{selves_and_below}
-use Rattle.xq_forms.proofs.NodeLemmas.{are_nodes, context_in, items_read}
-use Rattle.xq_forms.specs.Paths.{IsHeld}
-use Rattle.xq_forms.specs.declared.frames.Frame.{Frame as HeldFrame}
-use Rattle.xq_forms.specs.declared.paths.ShortPath.{ShortPath}
-use Rattle.xq_regions.specs.declared.items.Node.{Node as Spot}
+use Rattle.xq_operators.proofs.NodeLemmas.{are_nodes, context_in, items_read}
+use Rattle.xq_operators.specs.Paths.{IsHeld}
+use Rattle.xq_operators.specs.declared.contexts.EvalContext.{EvalContext as HeldFrame}
+use Rattle.xq_operators.specs.declared.paths.ShortPath.{ShortPath}
+use Rattle.xq_trees.specs.declared.items.Node.{Node as Spot}
 use Rattle.xq_sources.specs.Sources.{tree_at, HasNode}
 use Rattle.xq_tuples.specs.Views.{values_of}
-use Rattle.xq_forms.specs.Views.{tuple_at, focus_at, frame_at, FrameIn, after_double_slash}
-use Rattle.xq_forms.specs.Nodes.{nodes_among}
+use Rattle.xq_operators.specs.Views.{tuple_at, focus_at, frame_at, FrameIn, after_double_slash}
+use Rattle.xq_operators.specs.Nodes.{nodes_among}
 use Rattle.xq_joins.specs.declared.equalities.NodeTest.{NodeTest}
 use Rattle.xq_joins.specs.declared.equalities.TextTest.{TextTest}
 use Rattle.xq_joins.specs.Equalities.{have_text, leads_to_text, on_nodes, at_node, Asks, IsNodeTest, IsTextTest}

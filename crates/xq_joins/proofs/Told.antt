@@ -8,7 +8,7 @@ use Rattle.xq_atoms.specs.declared.refusals.Fault.TheVariants.{Code as OfCode, W
 use Rattle.xq_atoms.specs.Atom.{Atomic, atomic_of}
 use Rattle.xq_atoms.specs.Judged.{Judged}
 use Rattle.xq_expressions.specs.declared.signatures.Function.{Function}
-use Rattle.xq_regions.specs.Tree.{Tree}
+use Rattle.xq_trees.specs.Tree.{Tree}
 use Rattle.xq_functions.specs.Answers.{TellsAtom}
 use Rattle.xq_meaning.specs.declared.plans.Plan.{Plan}
 use Rattle.xq_meaning.specs.declared.plans.Plan.TheVariants as plan
@@ -22,9 +22,9 @@ use Rattle.xq_meaning.specs.Readings.{node_at}
 use Rattle.xq_meaning.specs.Steps.{axis_nodes}
 use Rattle.xq_meaning.proofs.PathLemmas.{map-map}
 use Rattle.xq_meaning.proofs.PlanEquations.{plan-Call}
-use Rattle.xq_forms.specs.declared.frames.Frame.{Frame as HeldFrame}
-use Rattle.xq_forms.specs.declared.paths.ShortPath.{ShortPath}
-use Rattle.xq_forms.specs.Views.{frame_at, nodes_in, FrameIn}
+use Rattle.xq_operators.specs.declared.contexts.EvalContext.{EvalContext as HeldFrame}
+use Rattle.xq_operators.specs.declared.paths.ShortPath.{ShortPath}
+use Rattle.xq_operators.specs.Views.{frame_at, nodes_in, FrameIn}
 use Rattle.xq_joins.specs.Atoms.{Tells}
 use Rattle.xq_joins.specs.private.Texts.{IsStepAt}
 

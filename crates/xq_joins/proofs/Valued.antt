@@ -2,9 +2,9 @@
 use Rattle.std.proofs.Common.{◌≡◌, List, [], ◌∷◌, cond, refl, sym, ◌∙◌, ap}
 use Rattle.std.specs.Prelude.{filter, Some}
 use Rattle.xq_atoms.specs.Text.{Text}
-use Rattle.xq_regions.specs.Items.{ItemView, Place as NodeAt, Value}
-use Rattle.xq_regions.specs.Tree.{Tree}
-use Rattle.xq_regions.specs.declared.Axis.TheVariants as axis
+use Rattle.xq_trees.specs.Items.{ItemView, Place as NodeAt, Value}
+use Rattle.xq_trees.specs.Tree.{Tree}
+use Rattle.xq_trees.specs.declared.Axis.TheVariants as axis
 use Rattle.xq_meaning.specs.Readings.{node_at, IsIn, AreIn}
 use Rattle.xq_meaning.specs.Steps.{axis_nodes}
 use Rattle.xq_meaning.specs.declared.node_tests.Test.TheVariants as tests

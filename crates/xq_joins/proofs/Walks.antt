@@ -2,8 +2,8 @@
 use Rattle.std.proofs.Common.{◌≡◌, List, [], ◌∷◌, ◌++◌, map, Ok, Err, refl, sym, ◌∙◌, ap}
 use Rattle.std.specs.List.{AllByRecursion, flat_map}
 use Rattle.xq_atoms.specs.declared.refusals.Code.TheVariants.{XPTY0019}
-use Rattle.xq_regions.specs.declared.Axis.{Axis}
-use Rattle.xq_regions.specs.Tree.{Tree}
+use Rattle.xq_trees.specs.declared.Axis.{Axis}
+use Rattle.xq_trees.specs.Tree.{Tree}
 use Rattle.xq_meaning.specs.declared.node_tests.Test.{Test}
 use Rattle.xq_meaning.specs.declared.plans.Plan.{Plan}
 use Rattle.xq_meaning.specs.declared.plans.PlanStep.{PlanStep, out-PlanStep}
@@ -17,7 +17,7 @@ use Rattle.xq_meaning.specs.PlanMeaning.{Frame, StepMeaning, next_step, plan_ste
 use Rattle.xq_meaning.specs.Steps.{axis_nodes}
 use Rattle.xq_meaning.proofs.PlanEquations.{step-Scan}
 use Rattle.xq_meaning.proofs.SameForms.{AreRelated, in_turn_same}
-use Rattle.xq_forms.proofs.NodeLemmas.{are_nodes}
+use Rattle.xq_operators.proofs.NodeLemmas.{are_nodes}
 use Rattle.xq_joins.specs.Keys.{scan_in, scans, nodes_after}
 use Rattle.xq_joins.specs.private.Shapes.{IsScan}
 

@@ -2,9 +2,9 @@
 use Rattle.std.specs.Prelude.{◌≡◌, ℕ, List, map, Bool, false, Ok}
 use Rattle.std.specs.List.{list_any}
 use Rattle.xq_atoms.specs.Text.{Text, text_eq}
-use Rattle.xq_regions.specs.Items.{ItemView, Place as NodeAt, Value}
-use Rattle.xq_regions.specs.Tree.{Tree}
-use Rattle.xq_regions.specs.Tuples.{Tuple}
+use Rattle.xq_trees.specs.Items.{ItemView, Place as NodeAt, Value}
+use Rattle.xq_trees.specs.Tree.{Tree}
+use Rattle.xq_trees.specs.Tuples.{Tuple}
 use Rattle.xq_meaning.specs.declared.plans.Plan.{Plan}
 use Rattle.xq_meaning.specs.Arguments.{boolean}
 use Rattle.xq_meaning.specs.Forms as Forms
@@ -13,8 +13,8 @@ use Rattle.xq_meaning.specs.PlanMeaning.{Frame, plan_mean}
 use Rattle.xq_meaning.specs.Readings.{node_at}
 use Rattle.xq_meaning.specs.Steps.{axis_nodes}
 use Rattle.xq_sources.specs.Sources.{HasNode}
-use Rattle.xq_forms.specs.declared.frames.Frame.{Frame as HeldFrame}
-use Rattle.xq_forms.specs.Views.{tuple_at, frame_at, FrameIn}
+use Rattle.xq_operators.specs.declared.contexts.EvalContext.{EvalContext as HeldFrame}
+use Rattle.xq_operators.specs.Views.{tuple_at, frame_at, FrameIn}
 use Rattle.xq_joins.specs.declared.equalities.NodeTest.{NodeTest}
 use Rattle.xq_joins.specs.declared.equalities.TextTest.{TextTest}
 use Rattle.xq_joins.specs.Keys.{text_at}

@@ -1,8 +1,8 @@
 -- Predicates that compare a step from the item with a key.
 use Rattle.std.specs.Prelude.{List, [], ◌∷◌, map, Bool, string_bytes}
-use Rattle.xq_regions.specs.Items.{ItemView}
-use Rattle.xq_regions.specs.Tree.{Tree}
-use Rattle.xq_regions.specs.Tuples.{Tuple}
+use Rattle.xq_trees.specs.Items.{ItemView}
+use Rattle.xq_trees.specs.Tree.{Tree}
+use Rattle.xq_trees.specs.Tuples.{Tuple}
 use Rattle.xq_meaning.specs.declared.plans.Plan.{Plan}
 use Rattle.xq_meaning.specs.Doing.{Doing, first_that}
 use Rattle.xq_meaning.specs.Forms as Forms

@@ -4,7 +4,7 @@ ghost use Rattle.std.specs.Prelude.{◌≡◌, ◌∷◌, [], map, IfSome};
 ghost use Rattle.xq_meaning.specs.Arguments.{atomic};
 ghost use Rattle.xq_meaning.specs.Forms as Forms;
 ghost use Rattle.xq_meaning.specs.PlanMeaning.{plan_mean};
-ghost use Rattle.xq_forms.specs.Views.{frame_at, FrameIn};
+ghost use Rattle.xq_operators.specs.Views.{frame_at, FrameIn};
 ghost use Rattle.xq_joins.specs.Atoms.{Tells};
 
 use crate::equalities::step_at;
@@ -13,8 +13,8 @@ use std::alloc::Global;
 use xq_atoms::{Atom, Fault};
 use xq_axes::places_on_axis;
 use xq_expressions::Function;
-use xq_forms::{Frame, call_on_places, is_told, only_atom};
 use xq_meaning::Plan;
+use xq_operators::{EvalContext, call_on_places, is_told, only_atom};
 use xq_sources::RowLender;
 
 /// The only argument of a call.
@@ -33,7 +33,7 @@ fn only_part(parts: &[Plan]) -> Option<&Plan>
 pub fn atom_of_call<L: RowLender>(
     alloc: Global,
     source: &mut L,
-    frame: Frame<'_>,
+    frame: EvalContext<'_>,
     function: Function,
     parts: &[Plan],
 ) -> Result<Option<Atom>, Fault>
@@ -64,7 +64,7 @@ pub fn atom_of_call<L: RowLender>(
 pub fn atom_of<L: RowLender>(
     alloc: Global,
     source: &mut L,
-    frame: Frame<'_>,
+    frame: EvalContext<'_>,
     plan: &Plan,
 ) -> Result<Option<Atom>, Fault>
     ensures tells { L.is_clean source.new → FrameIn (L.forest source.old) frame.entry

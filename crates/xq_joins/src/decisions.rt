@@ -1,12 +1,12 @@
 //! Tests of quantified expressions that compare what one scan from the variable leads to with a key
 //! (XQuery 3.1, sections 3.7.2 and 3.16): the key is the same at each item, and is read once.
 ghost use Rattle.std.specs.Prelude.{◌≡◌, ◌∷◌, [], map, Ok, IfOk, IfSome};
-ghost use Rattle.xq_regions.specs.Items.{item_view};
+ghost use Rattle.xq_trees.specs.Items.{item_view};
 ghost use Rattle.xq_tuples.specs.Views.{values_of};
 ghost use Rattle.xq_meaning.specs.declared.plans.PlanStep.TheVariants as plan_step;
 ghost use Rattle.xq_meaning.specs.PlanMeaning.{Frame as Meant};
 ghost use Rattle.xq_meaning.specs.Readings.{items_at, AreIn};
-ghost use Rattle.xq_forms.specs.Views.{tuple_at, TupleIn};
+ghost use Rattle.xq_operators.specs.Views.{tuple_at, TupleIn};
 ghost use Rattle.xq_joins.specs.Keyed.{first_with, passes_key as passes_key_lem};
 ghost use Rattle.xq_joins.specs.private.Keyed.{decided, ComparesNext};
 
@@ -15,8 +15,8 @@ use crate::keyed::{Keyed, KeyedTest, passes_key, with_texts};
 use std::alloc::Global;
 use xq_atoms::Want;
 use xq_meaning::{Plan, PlanStep, Test};
-use xq_regions::{Axis, Item};
 use xq_sources::RowLender;
+use xq_trees::{Axis, Item};
 use xq_tuples::SlotValue;
 
 /// The axis and the test of the only step, where that is a scan.

@@ -3,8 +3,8 @@
 ghost use Rattle.std.specs.Prelude.{◌≡◌, [], List, map, filter, false, Ok, Some, IfOk, IfSome};
 ghost use Rattle.xq_atoms.specs.Atom.{atomic_of};
 ghost use Rattle.xq_atoms.specs.Text.{text_eq};
-ghost use Rattle.xq_regions.specs.Items.{item_view, item_views};
-ghost use Rattle.xq_regions.specs.declared.Axis.TheVariants as axes;
+ghost use Rattle.xq_trees.specs.Items.{item_view, item_views};
+ghost use Rattle.xq_trees.specs.declared.Axis.TheVariants as axes;
 ghost use Rattle.xq_axes.specs.Reads.{is_parent as is_parent_lem};
 ghost use Rattle.xq_sources.specs.Sources.{HasNode};
 ghost use Rattle.xq_tuples.specs.Views.{values_of};
@@ -12,8 +12,8 @@ ghost use Rattle.xq_meaning.specs.declared.node_tests.Test.TheVariants as tests;
 ghost use Rattle.xq_meaning.specs.declared.plans.Plan.TheVariants as plan_of;
 ghost use Rattle.xq_meaning.specs.Readings.{node_at, IsIn, AreIn};
 ghost use Rattle.xq_meaning.specs.Steps.{context_node as context_node_lem, is_reverse};
-ghost use Rattle.xq_forms.specs.Views.{focus_at};
-ghost use Rattle.xq_regions.specs.Tree.{Tree};
+ghost use Rattle.xq_operators.specs.Views.{focus_at};
+ghost use Rattle.xq_trees.specs.Tree.{Tree};
 ghost use Rattle.xq_joins.specs.Equalities.{have_text as have_text_lem, leads_to_text as leads_to_text_lem, passes_text, IsNodeTest, IsTextTest};
 ghost use Rattle.xq_joins.specs.Keys.{text_at};
 ghost use Rattle.xq_joins.specs.private.Texts.{IsText, AreText, GivesText, IsStepAt};
@@ -23,10 +23,10 @@ use crate::values::value;
 use std::alloc::Global;
 use xq_atoms::{Atom, Want};
 use xq_axes::{places_on_axis, string_value, with_value};
-use xq_forms::{Frame, ShortPath, push_copy, short_path};
 use xq_meaning::{Plan, Test};
-use xq_regions::{Axis, Item, Items, Kind, Node};
+use xq_operators::{EvalContext, ShortPath, push_copy, short_path};
 use xq_sources::RowLender;
+use xq_trees::{Axis, Item, Items, Kind, Node};
 use xq_tuples::SlotValue;
 
 /// A step, and the text that one of the nodes must have to which it leads.
@@ -118,7 +118,7 @@ pub struct NodeTest<'a> {
 }
 
 /// The node that is the context item.
-fn context_node(frame: Frame<'_>) -> Option<Node>
+fn context_node(frame: EvalContext<'_>) -> Option<Node>
     ensures { IfSome result (λ node. (trees : List Tree)
         → Ok (node_at trees node) ≡ context_node_lem (focus_at trees frame.entry.focus)) }
 {
@@ -130,7 +130,7 @@ fn context_node(frame: Frame<'_>) -> Option<Node>
 }
 
 /// The step that a plan is from a node at hand.
-pub fn step_at<'a>(frame: Frame<'_>, plan: &'a Plan) -> Option<ShortPath<'a>>
+pub fn step_at<'a>(frame: EvalContext<'_>, plan: &'a Plan) -> Option<ShortPath<'a>>
     ensures { IfSome result (λ found. IsStepAt frame.entry found plan.now) }
 {
     if let Plan::Path(start, steps) = plan {
@@ -160,7 +160,7 @@ fn with_text<'a>(step: ShortPath<'a>, text: &'a str) -> NodeTest<'a>
 
 /// The test that a plan is in this frame: a step from a node at hand and a text, in either order,
 /// compared for equality. None where it is no such test.
-pub fn node_test<'a>(frame: Frame<'a>, plan: &'a Plan) -> Option<NodeTest<'a>>
+pub fn node_test<'a>(frame: EvalContext<'a>, plan: &'a Plan) -> Option<NodeTest<'a>>
     ensures { IfSome result (λ found. IsNodeTest frame.entry found plan.now) }
 {
     let (first, second) = operands(plan)?;

@@ -3,13 +3,13 @@
 //! at each item, and is read once.
 ghost use Rattle.std.specs.Prelude.{◌≡◌, List, map, filter, string_bytes, IfOk, IfSome};
 ghost use Rattle.std.specs.List.{AllByRecursion};
-ghost use Rattle.xq_regions.specs.Items.{item_view, item_views};
-ghost use Rattle.xq_regions.specs.Tree.{Tree};
+ghost use Rattle.xq_trees.specs.Items.{item_view, item_views};
+ghost use Rattle.xq_trees.specs.Tree.{Tree};
 ghost use Rattle.xq_sources.specs.Sources.{HasNode};
 ghost use Rattle.xq_tuples.specs.Views.{values_of};
 ghost use Rattle.xq_meaning.specs.Items.{Place};
 ghost use Rattle.xq_meaning.specs.Readings.{node_at, IsIn, AreIn};
-ghost use Rattle.xq_forms.specs.Views.{TupleIn};
+ghost use Rattle.xq_operators.specs.Views.{TupleIn};
 ghost use Rattle.xq_joins.specs.Equalities.{leads_to_text};
 ghost use Rattle.xq_joins.specs.Keyed.{leads_to_key as leads_to_key_lem, passes_key as passes_key_lem, IsKeyedTest};
 ghost use Rattle.xq_joins.specs.Keys.{meet, text_at, IsNode};
@@ -23,10 +23,10 @@ use crate::values::{are_nodes, value};
 use std::alloc::Global;
 use xq_atoms::Want;
 use xq_axes::places_on_axis;
-use xq_forms::push_copy;
 use xq_meaning::{Plan, Test};
-use xq_regions::{Axis, Item, Items, Node};
+use xq_operators::push_copy;
 use xq_sources::RowLender;
+use xq_trees::{Axis, Item, Items, Node};
 use xq_tuples::SlotValue;
 
 /// A step, and the texts of which one of the nodes to which it leads must have one.

@@ -3,8 +3,8 @@ ghost use Rattle.std.specs.Prelude.{◌≡◌, ◌++◌, ◌∷◌, ◌&&◌, �
 ghost use Rattle.std.specs.List.{list_any};
 ghost use Rattle.xq_atoms.specs.Text.{Text, text_eq};
 ghost use Rattle.xq_axes.specs.Nodes.{HaveAll};
-ghost use Rattle.xq_regions.specs.declared.items.Node.{Node as NodeLem};
-ghost use Rattle.xq_regions.specs.Items.{item_view};
+ghost use Rattle.xq_trees.specs.declared.items.Node.{Node as NodeLem};
+ghost use Rattle.xq_trees.specs.Items.{item_view};
 ghost use Rattle.xq_meaning.specs.Readings.{node_at, AreIn};
 ghost use Rattle.xq_joins.specs.Keys.{scans, nodes_after as nodes_after_lem, text_at, texts_from};
 ghost use Rattle.xq_joins.specs.private.Tables.{IsTable, nodes_with};
@@ -15,8 +15,8 @@ use std::collections::HashMap;
 use xq_atoms::Want;
 use xq_axes::{step as step_from, string_value};
 use xq_meaning::PlanStep;
-use xq_regions::{Item, Node};
 use xq_sources::RowLender;
+use xq_trees::{Item, Node};
 
 /// The nodes of each text.
 pub type Table = HashMap<String, Vec<Node>>;

@@ -2,13 +2,13 @@
 ghost use Rattle.std.specs.Prelude.{◌≡◌, ◌++◌, List, map, length, IfOk, IfSome};
 ghost use Rattle.std.specs.List.{AllByRecursion};
 ghost use Rattle.xq_axes.specs.Nodes.{HaveAll};
-ghost use Rattle.xq_regions.specs.Items.{Place, item_view, item_views};
-ghost use Rattle.xq_regions.specs.declared.items.Node.{Node as NodeLem};
-ghost use Rattle.xq_regions.specs.Rising.{AreRising};
-ghost use Rattle.xq_regions.specs.Tuples.{value_at};
+ghost use Rattle.xq_trees.specs.Items.{Place, item_view, item_views};
+ghost use Rattle.xq_trees.specs.declared.items.Node.{Node as NodeLem};
+ghost use Rattle.xq_trees.specs.Rising.{AreRising};
+ghost use Rattle.xq_trees.specs.Tuples.{value_at};
 ghost use Rattle.xq_tuples.specs.Views.{values_of};
 ghost use Rattle.xq_meaning.specs.Readings.{AreIn};
-ghost use Rattle.xq_forms.specs.Views.{lists_of, TupleIn, TuplesIn};
+ghost use Rattle.xq_operators.specs.Views.{lists_of, TupleIn, TuplesIn};
 ghost use Rattle.xq_joins.specs.Keys.{IsNode};
 ghost use Rattle.xq_joins.specs.Joins.{matched, all_matched};
 ghost use Rattle.xq_joins.specs.private.Tables.{IsTable};
@@ -18,8 +18,8 @@ use crate::keys::{Table, gathered, key_texts, table_of};
 use crate::values::{are_nodes, as_items, nodes_among, value};
 use std::alloc::Global;
 use xq_atoms::Want;
-use xq_regions::{Item, Items, merge, rises};
 use xq_sources::RowLender;
+use xq_trees::{Item, Items, merge, rises};
 use xq_tuples::{SlotValue, Tuples};
 
 /// The nodes of the table of which a key is one of the tuple's, in document order.

@@ -5,17 +5,17 @@ ghost use Rattle.xq_meaning.specs.declared.plans.Plan.TheVariants as plan_of;
 ghost use Rattle.xq_meaning.specs.Arguments.{atomic};
 ghost use Rattle.xq_meaning.specs.Forms as Forms;
 ghost use Rattle.xq_meaning.specs.PlanMeaning.{plan_mean};
-ghost use Rattle.xq_forms.specs.Views.{frame_at, FrameIn};
+ghost use Rattle.xq_operators.specs.Views.{frame_at, FrameIn};
 ghost use Rattle.xq_joins.specs.Atoms.{Tells};
 ghost use Rattle.xq_joins.specs.private.Paths.{IsDocument, IsDocumentPath};
 
 use std::alloc::Global;
 use xq_atoms::{Atom, Fault, address_ok};
 use xq_expressions::Function;
-use xq_forms::{Frame, call_on_places, places_after_scans};
 use xq_meaning::{Plan, PlanStep, Test};
-use xq_regions::{Axis, Node};
+use xq_operators::{EvalContext, call_on_places, places_after_scans};
 use xq_sources::{Addresses, RowLender};
+use xq_trees::{Axis, Node};
 
 /// A path from a document.
 #[derive(Clone, Copy)]
@@ -53,7 +53,7 @@ fn document_at(addresses: &Addresses, address: &str) -> Option<Node>
 }
 
 /// The path that the plan is from a document, which a literal names and which is there.
-fn document_path<'a>(frame: Frame<'_>, plan: &'a Plan) -> Option<DocumentPath<'a>>
+fn document_path<'a>(frame: EvalContext<'_>, plan: &'a Plan) -> Option<DocumentPath<'a>>
     ensures { IfSome result (λ path. IsDocumentPath frame.entry path plan.now) }
 {
     let Plan::Path(start, steps) = plan else {
@@ -98,7 +98,7 @@ fn are_taken(steps: &[PlanStep]) -> bool {
 pub fn count_of_path<L: RowLender>(
     alloc: Global,
     source: &mut L,
-    frame: Frame<'_>,
+    frame: EvalContext<'_>,
     function: Function,
     part: &Plan,
 ) -> Result<Option<Atom>, Fault>

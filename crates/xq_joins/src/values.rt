@@ -1,15 +1,15 @@
 //! Values of slots, and the nodes in them.
 ghost use Rattle.std.specs.Prelude.{◌≡◌, ◌++◌, map, true, IfOk};
 ghost use Rattle.std.specs.List.{AllByRecursion};
-ghost use Rattle.xq_forms.specs.Nodes.{nodes_among as nodes_among_lem};
+ghost use Rattle.xq_operators.specs.Nodes.{nodes_among as nodes_among_lem};
 ghost use Rattle.xq_joins.specs.Keys.{IsNode};
-ghost use Rattle.xq_regions.specs.Items.{Place, item_view, item_views};
-ghost use Rattle.xq_regions.specs.Tuples.{value_at};
+ghost use Rattle.xq_trees.specs.Items.{Place, item_view, item_views};
+ghost use Rattle.xq_trees.specs.Tuples.{value_at};
 ghost use Rattle.xq_tuples.specs.Views.{values_of};
 
 use std::alloc::Global;
 use xq_atoms::Want;
-use xq_regions::{Item, Items, Node};
+use xq_trees::{Item, Items, Node};
 use xq_tuples::SlotValue;
 
 /// The value of a slot, of those outside and then those of a tuple.

@@ -13,7 +13,7 @@ use Rattle.xq_expressions.specs.declared.operators.NodeComparison.TheVariants.{I
 use Rattle.xq_expressions.specs.declared.operators.Quantifier.TheVariants as quantifier
 use Rattle.xq_expressions.specs.declared.operators.NamedNode.TheVariants as named
 use Rattle.xq_expressions.specs.declared.operators.UnnamedNode.TheVariants as unnamed
-use Rattle.xq_regions.specs.declared.Axis.TheVariants as axis
+use Rattle.xq_trees.specs.declared.Axis.TheVariants as axis
 use Rattle.xq_expressions.specs.declared.signatures.Function.TheVariants as f
 use Rattle.xq_meaning.specs.declared.node_tests.Test.TheVariants as test
 use Rattle.xq_meaning.specs.declared.operators.Operator.TheVariants as operator

@@ -8,8 +8,8 @@ use Rattle.xq_expressions.specs.declared.operators.Sign.{Sign}
 use Rattle.xq_expressions.specs.declared.operators.NamedNode.{NamedNode}
 use Rattle.xq_expressions.specs.declared.operators.UnnamedNode.{UnnamedNode}
 use Rattle.xq_expressions.specs.declared.operators.Quantifier.{Quantifier}
-use Rattle.xq_regions.specs.declared.Axis.{Axis}
-use Rattle.xq_regions.specs.Tuples.{Tuple}
+use Rattle.xq_trees.specs.declared.Axis.{Axis}
+use Rattle.xq_trees.specs.Tuples.{Tuple}
 use Rattle.xq_meaning.specs.declared.node_tests.Test.{Test}
 use Rattle.xq_expressions.specs.declared.signatures.Function.{Function}
 use Rattle.xq_meaning.specs.declared.operators.Operator.{Operator}
@@ -19,9 +19,9 @@ use Rattle.xq_meaning.specs.Operators.{keeps}
 use Rattle.xq_meaning.specs.Content.{name_of, named_tree, unnamed_tree}
 use Rattle.xq_meaning.specs.Steps.{focuses, context_node, axis_nodes, in_axis_order}
 use Rattle.xq_meaning.specs.Forms
-use Rattle.xq_regions.specs.Tree.{Tree}
+use Rattle.xq_trees.specs.Tree.{Tree}
 use Rattle.xq_meaning.specs.Doing.{Doing, Outcome, go_on, give, judged, on_trees, in_turn, more, one_more, for_each, collected, first_that, unless_found}
-use Rattle.xq_regions.proofs.Lists.{all_weaker}
+use Rattle.xq_trees.proofs.Lists.{all_weaker}
 
 -- the first list, and then others
 abbrev pub Extends : List Tree → List Tree → Type 0
@@ -96,26 +96,26 @@ all_of P each (x ∷ xs) = (each x, all_of P each xs)
 
 module _ {E : Type 0} where
   -- a part, in every frame
-  abbrev pub Growing : Forms.Meaning E → Type 0
-  Growing m = (frame : Forms.Frame E) → Grows (m frame)
+  abbrev pub TreeStore : Forms.Meaning E → Type 0
+  TreeStore m = (frame : Forms.Frame E) → Grows (m frame)
 
   abbrev pub AllGrowing : List (Forms.Meaning E) → Type 0
-  AllGrowing ms = AllByRecursion Growing ms
+  AllGrowing ms = AllByRecursion TreeStore ms
 
   in_frame : (ms : List (Forms.Meaning E)) (frame : Forms.Frame E) → AllGrowing ms →
       AllByRecursion (λ m. Grows (m frame)) ms
-  in_frame ms frame h = all_weaker Growing _ (λ m grows. grows frame) ms h
+  in_frame ms frame h = all_weaker TreeStore _ (λ m grows. grows frame) ms h
 
-  pub atoms_grow : (m : Forms.Meaning E) → Growing m → (frame : Forms.Frame E) →
+  pub atoms_grow : (m : Forms.Meaning E) → TreeStore m → (frame : Forms.Frame E) →
       Grows (Forms.atoms_of m frame)
   atoms_grow m h frame f = then_grows (m frame f) _ f (h frame f) (λ xs g. extends_itself g)
 
-  pub tested_grows : (m : Forms.Meaning E) → Growing m → (frame : Forms.Frame E) →
+  pub tested_grows : (m : Forms.Meaning E) → TreeStore m → (frame : Forms.Frame E) →
       Grows (Forms.tested m frame)
   tested_grows m h frame f = then_grows (m frame f) _ f (h frame f) (λ xs g. extends_itself g)
 
   pub call_grows : (function : Function) (ms : List (Forms.Meaning E)) → AllGrowing ms →
-      Growing (Forms.call function ms)
+      TreeStore (Forms.call function ms)
   call_grows function ms h frame f =
       then_grows (for_each (λ (m : Forms.Meaning E). m frame) ms f) _ f (for_each_grows (λ (m :
       Forms.Meaning E). m frame) ms (in_frame ms frame h) f) (λ values g. extends_itself g)
@@ -127,25 +127,25 @@ module _ {E : Type 0} where
       Forms.Meaning E). m frame) c.1 (in_frame c.1 frame h) f) (λ values g. extends_itself g)
 
   pub arrow_grows : (m : Forms.Meaning E) (calls : List (Function × List (Forms.Meaning E))) →
-      Growing m → AllByRecursion (λ c. AllGrowing c.1) calls → Growing (Forms.arrow m calls)
+      TreeStore m → AllByRecursion (λ c. AllGrowing c.1) calls → TreeStore (Forms.arrow m calls)
   arrow_grows m calls first h frame f =
       then_grows (m frame f) _ f (first frame f) (in_turn_grows (Forms.next_call frame) calls
       (all_weaker (λ c. AllGrowing c.1) _ (λ c grows xs. next_call_grows frame c grows xs) calls
       h))
 
-  pub sequence_grows : (ms : List (Forms.Meaning E)) → AllGrowing ms → Growing (Forms.sequence ms)
+  pub sequence_grows : (ms : List (Forms.Meaning E)) → AllGrowing ms → TreeStore (Forms.sequence ms)
   sequence_grows ms h frame f =
       collected_grows (λ (m : Forms.Meaning E). m frame) ms (in_frame ms frame h) f
 
-  pub chain_grows : (m : Forms.Meaning E) (rest : List (Operator × Forms.Meaning E)) → Growing m →
-      AllByRecursion (λ operand. Growing operand.1) rest → Growing (Forms.chain m rest)
+  pub chain_grows : (m : Forms.Meaning E) (rest : List (Operator × Forms.Meaning E)) → TreeStore m →
+      AllByRecursion (λ operand. TreeStore operand.1) rest → TreeStore (Forms.chain m rest)
   chain_grows m rest first h frame f =
       then_grows (m frame f) _ f (first frame f) (in_turn_grows (Forms.next_operand frame) rest
-      (all_weaker (λ operand. Growing operand.1) _ (λ operand grows xs g. then_grows (operand.1
+      (all_weaker (λ operand. TreeStore operand.1) _ (λ operand grows xs g. then_grows (operand.1
       frame g) _ g (grows frame g) (λ ys g'. extends_itself g')) rest h))
 
-  pub unary_grows : (signs : List Sign) (m : Forms.Meaning E) → Growing m →
-      Growing (Forms.unary signs m)
+  pub unary_grows : (signs : List Sign) (m : Forms.Meaning E) → TreeStore m →
+      TreeStore (Forms.unary signs m)
   unary_grows signs m h frame f =
       then_grows (Forms.atoms_of m frame f) _ f (atoms_grow m h frame f) (λ values g.
       extends_itself g)
@@ -153,31 +153,31 @@ module _ {E : Type 0} where
   tests_grow : (wanted : Bool) (ms : List (Forms.Meaning E)) → AllGrowing ms →
       (frame : Forms.Frame E) → Grows (first_that wanted (λ m. Forms.tested m frame) ms)
   tests_grow wanted ms h frame f =
-      first_that_grows wanted (λ m. Forms.tested m frame) ms (all_weaker Growing _ (λ m grows.
+      first_that_grows wanted (λ m. Forms.tested m frame) ms (all_weaker TreeStore _ (λ m grows.
       tested_grows m grows frame) ms h) f
 
-  pub or_grows : (ms : List (Forms.Meaning E)) → AllGrowing ms → Growing (Forms.or ms)
+  pub or_grows : (ms : List (Forms.Meaning E)) → AllGrowing ms → TreeStore (Forms.or ms)
   or_grows ms h frame f =
       then_grows (first_that true (λ (m : Forms.Meaning E). Forms.tested m frame) ms f) _ f
       (tests_grow true ms h frame f) (λ answer g. extends_itself g)
 
-  pub and_grows : (ms : List (Forms.Meaning E)) → AllGrowing ms → Growing (Forms.and ms)
+  pub and_grows : (ms : List (Forms.Meaning E)) → AllGrowing ms → TreeStore (Forms.and ms)
   and_grows ms h frame f =
       then_grows (first_that false (λ (m : Forms.Meaning E). Forms.tested m frame) ms f) _ f
       (tests_grow false ms h frame f) (λ answer g. extends_itself g)
 
-  chosen_grows : (b : Bool) (m n : Forms.Meaning E) → Growing m → Growing n →
-      Growing (Forms.chosen b m n)
+  chosen_grows : (b : Bool) (m n : Forms.Meaning E) → TreeStore m → TreeStore n →
+      TreeStore (Forms.chosen b m n)
   chosen_grows true m n h k frame f = h frame f
   chosen_grows false m n h k frame f = k frame f
 
-  pub conditional_grows : (t m n : Forms.Meaning E) → Growing t → Growing m → Growing n →
-      Growing (Forms.conditional t m n)
+  pub conditional_grows : (t m n : Forms.Meaning E) → TreeStore t → TreeStore m → TreeStore n →
+      TreeStore (Forms.conditional t m n)
   conditional_grows t m n g h k frame f =
       then_grows (Forms.tested t frame f) _ f (tested_grows t g frame f) (λ b. chosen_grows b m
       n h k frame)
 
-  pub filtered_grows : (frame : Forms.Frame E) (m : Forms.Meaning E) → Growing m →
+  pub filtered_grows : (frame : Forms.Frame E) (m : Forms.Meaning E) → TreeStore m →
       (xs : List Item) → Grows (Forms.filtered frame xs m)
   filtered_grows frame m h xs f =
       collected_grows (Forms.passed m frame) (focuses xs)
@@ -189,15 +189,15 @@ module _ {E : Type 0} where
   predicates_grow : (frame : Forms.Frame E) (ms : List (Forms.Meaning E)) → AllGrowing ms →
       (xs : List Item) → Grows (in_turn (Forms.filtered frame) xs ms)
   predicates_grow frame ms h =
-      in_turn_grows (Forms.filtered frame) ms (all_weaker Growing _ (λ m grows xs. filtered_grows
+      in_turn_grows (Forms.filtered frame) ms (all_weaker TreeStore _ (λ m grows xs. filtered_grows
       frame m grows xs) ms h)
 
-  pub filter_grows : (m : Forms.Meaning E) (ms : List (Forms.Meaning E)) → Growing m →
-      AllGrowing ms → Growing (Forms.filter_of m ms)
+  pub filter_grows : (m : Forms.Meaning E) (ms : List (Forms.Meaning E)) → TreeStore m →
+      AllGrowing ms → TreeStore (Forms.filter_of m ms)
   filter_grows m ms first h frame f =
       then_grows (m frame f) _ f (first frame f) (predicates_grow frame ms h)
 
-  pub slash_grows : (frame : Forms.Frame E) (m : Forms.Meaning E) → Growing m → (xs : List Item) →
+  pub slash_grows : (frame : Forms.Frame E) (m : Forms.Meaning E) → TreeStore m → (xs : List Item) →
       Grows (Forms.slash frame xs m)
   slash_grows frame m h xs f =
       then_grows (judged (all_nodes XPTY0019 xs) f) _ f (extends_itself f) (λ places g.
@@ -207,27 +207,27 @@ module _ {E : Type 0} where
       (focuses xs)) g)
       (λ ys g'. extends_itself g'))
 
-  pub path_grows : (m : Forms.Meaning E) (ms : List (Forms.Meaning E)) → Growing m → AllGrowing ms →
-      Growing (Forms.path m ms)
+  pub path_grows : (m : Forms.Meaning E) (ms : List (Forms.Meaning E)) → TreeStore m → AllGrowing ms →
+      TreeStore (Forms.path m ms)
   path_grows m ms first h frame f =
       then_grows (m frame f) _ f (first frame f) (in_turn_grows (Forms.slash frame) ms (all_weaker
-      Growing _ (λ part grows xs. slash_grows frame part grows xs) ms h))
+      TreeStore _ (λ part grows xs. slash_grows frame part grows xs) ms h))
 
-  bang_grows : (frame : Forms.Frame E) (m : Forms.Meaning E) → Growing m → (xs : List Item) →
+  bang_grows : (frame : Forms.Frame E) (m : Forms.Meaning E) → TreeStore m → (xs : List Item) →
       Grows (Forms.bang frame xs m)
   bang_grows frame m h xs =
       collected_grows (λ item. m (Forms.in_focus frame item)) (focuses xs) (all_of (λ item.
       Grows (m (Forms.in_focus frame item))) (λ item. h (Forms.in_focus frame item))
       (focuses xs))
 
-  pub map_grows : (m : Forms.Meaning E) (ms : List (Forms.Meaning E)) → Growing m → AllGrowing ms →
-      Growing (Forms.simple_map m ms)
+  pub map_grows : (m : Forms.Meaning E) (ms : List (Forms.Meaning E)) → TreeStore m → AllGrowing ms →
+      TreeStore (Forms.simple_map m ms)
   map_grows m ms first h frame f =
       then_grows (m frame f) _ f (first frame f) (in_turn_grows (Forms.bang frame) ms (all_weaker
-      Growing _ (λ part grows xs. bang_grows frame part grows xs) ms h))
+      TreeStore _ (λ part grows xs. bang_grows frame part grows xs) ms h))
 
-  pub named_node_grows : (kind : NamedNode) (m n : Forms.Meaning E) → Growing m → Growing n →
-      Growing (Forms.named_node kind m n)
+  pub named_node_grows : (kind : NamedNode) (m n : Forms.Meaning E) → TreeStore m → TreeStore n →
+      TreeStore (Forms.named_node kind m n)
   named_node_grows kind m n h k frame f =
       then_grows (Forms.atoms_of m frame f) _ f (atoms_grow m h frame f) (λ values g.
       then_grows (judged (name_of kind values) g) _ g (extends_itself g) (λ good g'.
@@ -235,13 +235,13 @@ module _ {E : Type 0} where
       named_tree kind good trees xs) g'') _ g'' (extends_itself g'') (λ tree. planted_grows
       tree))))
 
-  pub unnamed_node_grows : (kind : UnnamedNode) (m : Forms.Meaning E) → Growing m →
-      Growing (Forms.unnamed_node kind m)
+  pub unnamed_node_grows : (kind : UnnamedNode) (m : Forms.Meaning E) → TreeStore m →
+      TreeStore (Forms.unnamed_node kind m)
   unnamed_node_grows kind m h frame f =
       then_grows (m frame f) _ f (h frame f) (λ xs g. then_grows (on_trees (λ trees.
       unnamed_tree kind trees xs) g) _ g (extends_itself g) (λ tree. planted_if_grows tree))
 
-  pub root_grows : Growing Forms.root
+  pub root_grows : TreeStore Forms.root
   root_grows frame f =
       then_grows (judged (context_node frame.focus) f) _ f (extends_itself f) (λ p g.
       extends_itself g)
@@ -253,7 +253,7 @@ module _ {E : Type 0} where
       go_on (in_turn (Forms.filtered frame) xs ms g) (λ ys. give (in_axis_order axis ys))
 
   pub step_grows : (axis : Axis) (node_test : Test) (ms : List (Forms.Meaning E)) → AllGrowing ms →
-      Growing (Forms.step axis node_test ms)
+      TreeStore (Forms.step axis node_test ms)
   step_grows axis node_test ms h frame f =
       then_grows (judged (context_node frame.focus) f) _ f (extends_itself f) (λ p g.
       then_grows {B = List Item} (on_trees (λ trees. Ok (map Node (in_axis_order axis
@@ -264,7 +264,7 @@ module _ {E : Type 0} where
       extends_itself g'')))
 
   pub satisfied_grows : (wanted : Bool) (bindings : List (Forms.Binding E)) (m : Forms.Meaning E) →
-      AllByRecursion (λ b. Growing b.1) bindings → Growing m → (frame : Forms.Frame E) → Grows
+      AllByRecursion (λ b. TreeStore b.1) bindings → TreeStore m → (frame : Forms.Frame E) → Grows
       (Forms.satisfied wanted bindings m frame)
   satisfied_grows wanted [] m h k frame f = tested_grows m k frame f
   satisfied_grows wanted (b ∷ bs) m h k frame f =
@@ -275,7 +275,7 @@ module _ {E : Type 0} where
 
   pub quantified_grows : (which : Quantifier) (bindings : List (Forms.Binding E)) (m :
       Forms.Meaning E) →
-      AllByRecursion (λ b. Growing b.1) bindings → Growing m → Growing (Forms.quantified which
+      AllByRecursion (λ b. TreeStore b.1) bindings → TreeStore m → TreeStore (Forms.quantified which
       bindings m)
   quantified_grows which bindings m h k frame f =
       then_grows (Forms.satisfied (Forms.deciding which) bindings m frame f) _ f
@@ -284,28 +284,28 @@ module _ {E : Type 0} where
 
   -- # Clauses
 
-  values_grow : (m : Forms.Meaning E) → Growing m →
+  values_grow : (m : Forms.Meaning E) → TreeStore m →
       (frame_at : Tuple Item → Forms.Frame E) (tuples : List (Tuple Item)) → Grows (for_each (λ
       t. m (frame_at t)) tuples)
   values_grow m h frame_at tuples =
       for_each_grows (λ t. m (frame_at t)) tuples (all_of (λ t. Grows (m (frame_at t))) (λ t. h
       (frame_at t)) tuples)
 
-  pub for_tuples_grows : (empties : AllowingEmpty) (at : Bool) (m : Forms.Meaning E) → Growing m →
+  pub for_tuples_grows : (empties : AllowingEmpty) (at : Bool) (m : Forms.Meaning E) → TreeStore m →
       (frame_at : Tuple Item → Forms.Frame E) (tuples : List (Tuple Item)) → Grows
       (Forms.for_tuples empties at m frame_at tuples)
   for_tuples_grows empties at m h frame_at tuples f =
       then_grows (for_each (λ t. m (frame_at t)) tuples f) _ f (values_grow m h frame_at tuples
       f) (λ lists g. extends_itself g)
 
-  pub let_tuples_grows : (m : Forms.Meaning E) → Growing m →
+  pub let_tuples_grows : (m : Forms.Meaning E) → TreeStore m →
       (frame_at : Tuple Item → Forms.Frame E) (tuples : List (Tuple Item)) → Grows
       (Forms.let_tuples m frame_at tuples)
   let_tuples_grows m h frame_at tuples f =
       then_grows (for_each (λ t. m (frame_at t)) tuples f) _ f (values_grow m h frame_at tuples
       f) (λ lists g. extends_itself g)
 
-  pub where_tuples_grows : (m : Forms.Meaning E) → Growing m →
+  pub where_tuples_grows : (m : Forms.Meaning E) → TreeStore m →
       (frame_at : Tuple Item → Forms.Frame E) (tuples : List (Tuple Item)) → Grows
       (Forms.where_tuples m frame_at tuples)
   where_tuples_grows m h frame_at tuples f =
@@ -314,7 +314,7 @@ module _ {E : Type 0} where
       (Forms.tested m (frame_at t))) (λ t. tested_grows m h (frame_at t)) tuples) f) (λ
       tests g. extends_itself g)
 
-  pub return_grows : (m : Forms.Meaning E) → Growing m →
+  pub return_grows : (m : Forms.Meaning E) → TreeStore m →
       (frame_at : Tuple Item → Forms.Frame E) (tuples : List (Tuple Item)) → Grows
       (Forms.return_of m frame_at tuples)
   return_grows m h frame_at tuples =

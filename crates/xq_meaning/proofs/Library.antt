@@ -1,11 +1,11 @@
 -- Documents for worked rows, and what a query is answered over them.
 use Prim.Native.String.{String}
 use Rattle.std.specs.Prelude.{List, [], ◌∷◌, None, Ok, Err, codes}
-use Rattle.xq_regions.specs.declared.Kind.TheVariants as kind
+use Rattle.xq_trees.specs.declared.Kind.TheVariants as kind
 use Rattle.xq_atoms.specs.Judged.{Judged}
 use Rattle.xq_atoms.specs.Text.{Text}
-use Rattle.xq_regions.specs.Forest.{Forest, end, node, join}
-use Rattle.xq_regions.specs.Tree.{Label, Tree}
+use Rattle.xq_trees.specs.Forest.{Forest, end, node, join}
+use Rattle.xq_trees.specs.Tree.{Label, Tree}
 use Rattle.xq_meaning.specs.Content.{label}
 use Rattle.xq_meaning.specs.Items.{Item}
 use Rattle.xq_meaning.specs.Print.{print_items, within_reply}

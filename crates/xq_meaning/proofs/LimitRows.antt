@@ -6,8 +6,8 @@ use Rattle.xq_atoms.specs.Characters.{is_name_start, is_name_char}
 use Rattle.xq_atoms.specs.declared.refusals.Code.TheVariants.{FOAR0001, ProfLevel, ProfNodes, ProfReply}
 use Rattle.xq_atoms.specs.Judged.{Judged}
 use Rattle.xq_atoms.specs.Text.{Text}
-use Rattle.xq_regions.specs.Forest.{count}
-use Rattle.xq_regions.specs.Tree.{Tree, nodes}
+use Rattle.xq_trees.specs.Forest.{count}
+use Rattle.xq_trees.specs.Tree.{Tree, nodes}
 use Rattle.xq_meaning.specs.Items.{Item, Node, root_of}
 use Rattle.xq_meaning.specs.Print.{within_reply}
 use Rattle.xq_meaning.specs.Content.{is_within_height, within_limits}

@@ -10,12 +10,12 @@ use Rattle.xq_atoms.specs.declared.refusals.Code.TheVariants.{ProfNodes, ProfRep
 use Rattle.xq_atoms.specs.Judged.{Judged}
 use Rattle.xq_atoms.specs.Text.{Text}
 use Rattle.xq_atoms.specs.Atom.{String}
-use Rattle.xq_regions.specs.declared.Kind.TheVariants as kind
-use Rattle.xq_regions.specs.Forest.{Forest, end, node, count, tops, join}
-use Rattle.xq_regions.specs.Node.{subtree}
+use Rattle.xq_trees.specs.declared.Kind.TheVariants as kind
+use Rattle.xq_trees.specs.Forest.{Forest, end, node, count, tops, join}
+use Rattle.xq_trees.specs.Node.{subtree}
 use Rattle.xq_sources.specs.Sources.{tree_at, no_tree}
-use Rattle.xq_regions.specs.Tree.{Label, Tree, nodes}
-use Rattle.xq_regions.specs.Tuples.{Tuple, expanded}
+use Rattle.xq_trees.specs.Tree.{Label, Tree, nodes}
+use Rattle.xq_trees.specs.Tuples.{Tuple, expanded}
 use Rattle.xq_meaning.specs.Items.{Item, Node, Atom, root_of}
 use Rattle.xq_meaning.specs.Operators.{how_many, integers_from}
 use Rattle.xq_meaning.specs.Print.{print_items}

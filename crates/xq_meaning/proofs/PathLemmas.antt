@@ -4,8 +4,8 @@ use Rattle.std.specs.Prelude.{filter}
 use Rattle.std.specs.List.{range_with_len}
 use Rattle.std.proofs.lemmas.List.{map-append}
 use Rattle.std.proofs.lemmas.Bool.{le-leb, lt-leb}
-use Rattle.xq_regions.specs.Forest.{Forest, end, node, count}
-use Rattle.xq_regions.specs.Order.{path_at, step_down, step_right}
+use Rattle.xq_trees.specs.Forest.{Forest, end, node, count}
+use Rattle.xq_trees.specs.Order.{path_at, step_down, step_right}
 use Rattle.xq_meaning.specs.Items.{paths}
 
 pub map-map : {A B C : Type 0} (g : B → C) (f : A → B) (xs : List A) → map g (map f xs) ≡ map (λ x. g (f x)) xs

@@ -8,7 +8,7 @@ use Rattle.xq_expressions.specs.declared.operators.Quantifier.{Quantifier}
 use Rattle.xq_expressions.specs.declared.operators.NamedNode.{NamedNode}
 use Rattle.xq_expressions.specs.declared.operators.UnnamedNode.{UnnamedNode}
 use Rattle.xq_expressions.specs.declared.operators.OrderModifier.{OrderModifier}
-use Rattle.xq_regions.specs.declared.Axis.{Axis}
+use Rattle.xq_trees.specs.declared.Axis.{Axis}
 use Rattle.xq_expressions.specs.declared.signatures.Function.{Function}
 use Rattle.xq_meaning.specs.declared.node_tests.Test.{Test}
 use Rattle.xq_meaning.specs.declared.operators.Operator.{Operator}

@@ -3,7 +3,7 @@ use Rattle.std.proofs.Common.{List, [], ◌∷◌, map, subst, sym}
 use Rattle.std.specs.List.{AllByRecursion}
 use Rattle.xq_expressions.specs.declared.operators.OrderModifier.{OrderModifier}
 use Rattle.xq_expressions.specs.declared.signatures.Function.{Function}
-use Rattle.xq_regions.specs.Tuples.{Tuple}
+use Rattle.xq_trees.specs.Tuples.{Tuple}
 use Rattle.xq_meaning.specs.declared.operators.Operator.{Operator}
 use Rattle.xq_meaning.specs.Items.{Item}
 use Rattle.xq_meaning.specs.Doing.{in_turn, for_each}
@@ -13,12 +13,12 @@ use Rattle.xq_meaning.specs.declared.plans.PlanClause.{PlanClause, map-PlanClaus
 use Rattle.xq_meaning.specs.declared.plans.PlanStep.{PlanStep, map-PlanStep, fold-roll-PlanStep}
 use Rattle.xq_meaning.specs.declared.plans.Plan.TheOpen.{Plan-F, PlanClause-F, PlanStep-F}
 use Rattle.xq_meaning.specs.PlanMeaning.{Frame, Meaning, ClauseMeaning, StepMeaning, at_tuple, next_clause, next_step, opened, plan_form, plan_clause, plan_step, plan_mean, plan_clause_mean, plan_step_mean}
-use Rattle.xq_meaning.proofs.Growth.{Grows, Growing, AllGrowing, extends_itself, then_grows, in_turn_grows, for_each_grows, all_of, atoms_grow, call_grows, arrow_grows, sequence_grows, chain_grows, unary_grows, or_grows, and_grows, conditional_grows, filter_grows, slash_grows, map_grows, named_node_grows, unnamed_node_grows, root_grows, step_grows, quantified_grows, for_tuples_grows, let_tuples_grows, where_tuples_grows, return_grows, count_tuples_grows, group_tuples_grows}
+use Rattle.xq_meaning.proofs.Growth.{Grows, TreeStore, AllGrowing, extends_itself, then_grows, in_turn_grows, for_each_grows, all_of, atoms_grow, call_grows, arrow_grows, sequence_grows, chain_grows, unary_grows, or_grows, and_grows, conditional_grows, filter_grows, slash_grows, map_grows, named_node_grows, unnamed_node_grows, root_grows, step_grows, quantified_grows, for_tuples_grows, let_tuples_grows, where_tuples_grows, return_grows, count_tuples_grows, group_tuples_grows}
 
 -- # What is claimed of each part
 
 abbrev Grown : Plan → Type 0
-Grown p = Growing (plan_mean p)
+Grown p = TreeStore (plan_mean p)
 
 abbrev ClauseGrows : ClauseMeaning → Type 0
 ClauseGrows m = (frame : Frame) (tuples : List (Tuple Item)) → Grows (m frame tuples)
@@ -42,7 +42,7 @@ plans : (ps : List P) → AllGrowing (map plan_mean (map (λ e. e.0) ps))
 plans [] = tt
 plans (p ∷ ps) = (p.1, plans ps)
 
-operands : (rest : List (Operator × P)) → AllByRecursion (λ (o : Operator × Meaning). Growing o.1) (map (λ (o : Operator × Plan). (o.0, plan_mean o.1)) (map (λ (o : Operator × P). (o.0, o.1.0)) rest))
+operands : (rest : List (Operator × P)) → AllByRecursion (λ (o : Operator × Meaning). TreeStore o.1) (map (λ (o : Operator × Plan). (o.0, plan_mean o.1)) (map (λ (o : Operator × P). (o.0, o.1.0)) rest))
 operands [] = tt
 operands (o ∷ rest) = (o.1.1, operands rest)
 
@@ -50,7 +50,7 @@ calls : (cs : List (Function × List P)) → AllByRecursion (λ (c : Function ×
 calls [] = tt
 calls (c ∷ cs) = (plans c.1, calls cs)
 
-ranges : (ps : List P) → AllByRecursion (λ (b : Forms.Binding _). Growing b.1) (map (λ range. (opened, range)) (map plan_mean (map (λ e. e.0) ps)))
+ranges : (ps : List P) → AllByRecursion (λ (b : Forms.Binding _). TreeStore b.1) (map (λ range. (opened, range)) (map plan_mean (map (λ e. e.0) ps)))
 ranges [] = tt
 ranges (p ∷ ps) = (p.1, ranges ps)
 
@@ -76,7 +76,7 @@ plan_parts y =
     map-Plan Plan PlanClause PlanStep Meaning ClauseMeaning StepMeaning plan_mean plan_clause_mean plan_step_mean
     (map-Plan P C S Plan PlanClause PlanStep (λ e. e.0) (λ e. e.0) (λ e. e.0) y)
 
-form_grows : (y : Plan-F P C S) → Growing (plan_form (plan_parts y))
+form_grows : (y : Plan-F P C S) → TreeStore (plan_form (plan_parts y))
 form_grows (Plan-F.Int n) = λ frame f. extends_itself f
 form_grows (Plan-F.Dec m) = λ frame f. extends_itself f
 form_grows (Plan-F.Str t) = λ frame f. extends_itself f
@@ -134,11 +134,11 @@ one_step_grows (PlanStep-F.Scan direction node_test) = λ frame xs f.
 
 -- # All plans
 
-pub plan_grows : (p : Plan) → Growing (plan_mean p)
+pub plan_grows : (p : Plan) → TreeStore (plan_mean p)
 plan_grows =
     ind-Plan Grown (λ c. ClauseGrows (plan_clause_mean c)) (λ s. StepGrows (plan_step_mean s))
-    (λ x y is. subst Growing (sym (fold-roll-Plan Meaning ClauseMeaning StepMeaning plan_form plan_clause plan_step x))
-    (subst (λ z. Growing (plan_form (map-Plan Plan PlanClause PlanStep Meaning ClauseMeaning StepMeaning plan_mean plan_clause_mean plan_step_mean z))) is (form_grows y)))
+    (λ x y is. subst TreeStore (sym (fold-roll-Plan Meaning ClauseMeaning StepMeaning plan_form plan_clause plan_step x))
+    (subst (λ z. TreeStore (plan_form (map-Plan Plan PlanClause PlanStep Meaning ClauseMeaning StepMeaning plan_mean plan_clause_mean plan_step_mean z))) is (form_grows y)))
     (λ x y is. subst ClauseGrows (sym (fold-roll-PlanClause Meaning ClauseMeaning StepMeaning plan_form plan_clause plan_step x))
     (subst (λ z. ClauseGrows (plan_clause (map-PlanClause Plan PlanClause PlanStep Meaning ClauseMeaning StepMeaning plan_mean plan_clause_mean plan_step_mean z))) is (clause_grows y)))
     (λ x y is. subst StepGrows (sym (fold-roll-PlanStep Meaning ClauseMeaning StepMeaning plan_form plan_clause plan_step x))

@@ -9,9 +9,9 @@ use Rattle.xq_expressions.specs.declared.operators.Quantifier.{Quantifier}
 use Rattle.xq_expressions.specs.declared.operators.NamedNode.{NamedNode}
 use Rattle.xq_expressions.specs.declared.operators.UnnamedNode.{UnnamedNode}
 use Rattle.xq_expressions.specs.declared.operators.OrderModifier.{OrderModifier}
-use Rattle.xq_regions.specs.declared.Axis.{Axis}
-use Rattle.xq_regions.specs.Tree.{Tree}
-use Rattle.xq_regions.specs.Tuples.{Tuple, expanded, bound, satisfying, ordered}
+use Rattle.xq_trees.specs.declared.Axis.{Axis}
+use Rattle.xq_trees.specs.Tree.{Tree}
+use Rattle.xq_trees.specs.Tuples.{Tuple, expanded, bound, satisfying, ordered}
 use Rattle.xq_expressions.specs.declared.signatures.Function.{Function}
 use Rattle.xq_meaning.specs.declared.node_tests.Test.{Test}
 use Rattle.xq_meaning.specs.declared.operators.Operator.{Operator}

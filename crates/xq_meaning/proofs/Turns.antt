@@ -1,6 +1,6 @@
 -- Evaluations one after another, in lists and in parts of lists.
 use Rattle.std.proofs.Common.{◌≡◌, List, [], ◌∷◌, ◌++◌, refl, sym, ap, ◌∙◌, Ok, Err}
-use Rattle.xq_regions.specs.Tree.{Tree}
+use Rattle.xq_trees.specs.Tree.{Tree}
 use Rattle.xq_meaning.specs.Doing.{Doing, Outcome, go_on, give, in_turn, one_more, for_each}
 use Rattle.xq_meaning.proofs.SameForms.{go_on_same}
 

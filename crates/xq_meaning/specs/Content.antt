@@ -9,17 +9,17 @@ use Rattle.xq_expressions.specs.declared.operators.NamedNode.{NamedNode}
 use Rattle.xq_expressions.specs.declared.operators.NamedNode.TheVariants as named
 use Rattle.xq_expressions.specs.declared.operators.UnnamedNode.{UnnamedNode}
 use Rattle.xq_expressions.specs.declared.operators.UnnamedNode.TheVariants as unnamed
-use Rattle.xq_regions.specs.declared.Kind.{Kind}
-use Rattle.xq_regions.specs.declared.Kind.TheVariants as kind
+use Rattle.xq_trees.specs.declared.Kind.{Kind}
+use Rattle.xq_trees.specs.declared.Kind.TheVariants as kind
 use Rattle.xq_atoms.specs.Judged.{Judged, ◌>>=◌, only_if}
 use Rattle.xq_atoms.specs.Text.{Text, is_empty, text_eq}
 use Rattle.xq_atoms.specs.Characters.{is_space, is_name}
 use Rattle.xq_atoms.specs.Spaces.{trimmed, after_leading}
 use Rattle.xq_atoms.specs.Atom.{Atomic, String, Untyped}
 use Rattle.xq_atoms.specs.Cast.{text_of}
-use Rattle.xq_regions.specs.Names.{is_xml, holds, ends_with_dash}
-use Rattle.xq_regions.specs.Forest.{Forest, end, node, count, tops, join}
-use Rattle.xq_regions.specs.Tree.{Label, Tree, nodes, is_attribute, most_levels, most_nodes}
+use Rattle.xq_trees.specs.Names.{is_xml, holds, ends_with_dash}
+use Rattle.xq_trees.specs.Forest.{Forest, end, node, count, tops, join}
+use Rattle.xq_trees.specs.Tree.{Label, Tree, nodes, is_attribute, most_levels, most_nodes}
 use Rattle.xq_meaning.specs.Texts.{joined}
 use Rattle.xq_meaning.specs.Items.{Item, Node, Atom, tree_below, atomized}
 

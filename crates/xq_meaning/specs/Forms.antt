@@ -15,8 +15,8 @@ use Rattle.xq_expressions.specs.declared.operators.Direction.{Direction}
 use Rattle.xq_expressions.specs.declared.operators.Direction.TheVariants.{Ascending, Descending}
 use Rattle.xq_expressions.specs.declared.operators.EmptyOrder.{EmptyOrder}
 use Rattle.xq_expressions.specs.declared.operators.EmptyOrder.TheVariants.{Least, Greatest}
-use Rattle.xq_regions.specs.declared.Axis.{Axis}
-use Rattle.xq_regions.specs.declared.Axis.TheVariants.{DescendantOrSelf}
+use Rattle.xq_trees.specs.declared.Axis.{Axis}
+use Rattle.xq_trees.specs.declared.Axis.TheVariants.{DescendantOrSelf}
 use Rattle.xq_expressions.specs.declared.signatures.Function.{Function}
 use Rattle.xq_meaning.specs.declared.node_tests.Test.{Test}
 use Rattle.xq_meaning.specs.declared.node_tests.Test.TheVariants.{Any}
@@ -24,8 +24,8 @@ use Rattle.xq_meaning.specs.declared.operators.Operator.{Operator}
 use Rattle.xq_atoms.specs.Judged.{Judged}
 use Rattle.xq_atoms.specs.Text.{Text}
 use Rattle.xq_atoms.specs.Atom.{Atomic}
-use Rattle.xq_regions.specs.Tree.{Tree}
-use Rattle.xq_regions.specs.Tuples.{Tuple, OrderRule, expanded, numbered, bound, satisfying, grouped, ordered, firsts, value_at}
+use Rattle.xq_trees.specs.Tree.{Tree}
+use Rattle.xq_trees.specs.Tuples.{Tuple, OrderRule, expanded, numbered, bound, satisfying, grouped, ordered, firsts, value_at}
 use Rattle.xq_meaning.specs.Items.{Item, Node, Atom, root_of, atomized}
 use Rattle.xq_meaning.specs.Arguments.{atomic, boolean, effective, all_nodes}
 use Rattle.xq_meaning.specs.Functions.{Focus, called}

@@ -13,10 +13,10 @@ use Rattle.xq_atoms.specs.Atom.{Atomic, Integer, Decimal, Untyped}
 use Rattle.xq_atoms.specs.Arithmetic.{add, abs, floor, ceiling, round}
 use Rattle.xq_atoms.specs.Cast.{cast_integer, cast_decimal, cast_boolean, text_of}
 use Rattle.xq_atoms.specs.Compare.{key, key_eq, key_cmp, of_one_kind}
-use Rattle.xq_regions.specs.Names.{holds}
-use Rattle.xq_regions.specs.Tree.{Tree}
-use Rattle.xq_regions.specs.Tuples.{firsts}
-use Rattle.xq_regions.specs.Value.{string_value}
+use Rattle.xq_trees.specs.Names.{holds}
+use Rattle.xq_trees.specs.Tree.{Tree}
+use Rattle.xq_trees.specs.Tuples.{firsts}
+use Rattle.xq_trees.specs.Value.{string_value}
 use Rattle.xq_expressions.specs.declared.signatures.Function.{Function}
 use Rattle.xq_expressions.specs.declared.signatures.Function.TheVariants as f
 use Rattle.xq_meaning.specs.Texts.{joined, begins, ends, normalized, character_count, from_position, between_positions, substring_before, substring_after}

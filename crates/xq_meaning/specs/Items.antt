@@ -3,13 +3,13 @@ use Rattle.std.proofs.Common.{suc}
 use Rattle.std.specs.Prelude.{ℕ, List, [], ◌∷◌, ◌++◌, map, filter, Bool, ◌&&◌, ◌||◌, ◌==◌, nat_lt}
 use Rattle.std.specs.List.{list_any}
 use Rattle.xq_atoms.specs.Atom.{Atomic, String, Untyped}
-use Rattle.xq_regions.specs.Forest.{Forest, end, node}
-use Rattle.xq_regions.specs.Tree.{Label, Tree, nodes, no_label}
-use Rattle.xq_regions.specs.Node.{label_at as label_in, subtree}
-use Rattle.xq_regions.specs.Order.{step_down, step_right}
-use Rattle.xq_regions.specs.AxisTests.{is_above, is_left_of, is_same}
+use Rattle.xq_trees.specs.Forest.{Forest, end, node}
+use Rattle.xq_trees.specs.Tree.{Label, Tree, nodes, no_label}
+use Rattle.xq_trees.specs.Node.{label_at as label_in, subtree}
+use Rattle.xq_trees.specs.Order.{step_down, step_right}
+use Rattle.xq_trees.specs.AxisTests.{is_above, is_left_of, is_same}
 use Rattle.xq_sources.specs.Sources.{tree_at}
-use Rattle.xq_regions.specs.Value.{TypedValue, string, untyped, typed_value}
+use Rattle.xq_trees.specs.Value.{TypedValue, string, untyped, typed_value}
 
 -- a node: the number of its tree, and the path from the root
 pub record Place : Type 0 where

@@ -23,8 +23,8 @@ use Rattle.xq_expressions.specs.declared.expressions.Clause.{Clause, fold-Clause
 use Rattle.xq_expressions.specs.declared.expressions.GroupSpec.{GroupSpec, fold-GroupSpec}
 use Rattle.xq_expressions.specs.declared.expressions.Step.{Step, fold-Step}
 use Rattle.xq_expressions.specs.declared.expressions.Clause.TheOpen.{Clause-F, ConstructorName-F, Expr-F, GroupSpec-F, Step-F}
-use Rattle.xq_regions.specs.declared.Axis.{Axis}
-use Rattle.xq_regions.specs.declared.Axis.TheVariants as axis
+use Rattle.xq_trees.specs.declared.Axis.{Axis}
+use Rattle.xq_trees.specs.declared.Axis.TheVariants as axis
 use Rattle.xq_expressions.specs.declared.signatures.Function.{Function}
 use Rattle.xq_meaning.specs.declared.node_tests.Test.{Test}
 use Rattle.xq_meaning.specs.declared.node_tests.Test.TheVariants as test
@@ -33,8 +33,8 @@ use Rattle.xq_meaning.specs.declared.operators.Operator.TheVariants as operator
 use Rattle.xq_atoms.specs.Judged.{Judged}
 use Rattle.xq_atoms.specs.Text.{Text, text_eq}
 use Rattle.xq_atoms.specs.Atom.{Integer, Decimal, String}
-use Rattle.xq_regions.specs.Tree.{Tree}
-use Rattle.xq_regions.specs.Tuples.{Tuple}
+use Rattle.xq_trees.specs.Tree.{Tree}
+use Rattle.xq_trees.specs.Tuples.{Tuple}
 use Rattle.xq_expressions.specs.Signatures.{function_named, arity, admits}
 use Rattle.xq_meaning.specs.Items.{Item}
 use Rattle.xq_meaning.specs.Arguments.{each}

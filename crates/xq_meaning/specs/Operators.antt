@@ -24,7 +24,7 @@ use Rattle.xq_atoms.specs.Atom.{Atomic, Integer, Decimal, Untyped, numeric}
 use Rattle.xq_atoms.specs.Arithmetic.{add, sub, mul, div, idiv, modulo, neg}
 use Rattle.xq_atoms.specs.Cast.{cast_integer}
 use Rattle.xq_atoms.specs.Compare.{compare_value, compare_general}
-use Rattle.xq_regions.specs.Tree.{Tree}
+use Rattle.xq_trees.specs.Tree.{Tree}
 use Rattle.xq_meaning.specs.declared.operators.Operator.{Operator}
 use Rattle.xq_meaning.specs.declared.operators.Operator.TheVariants as operator
 use Rattle.xq_meaning.specs.Items.{Place, Item, Node, Atom, same_node, is_before, is_among, in_document_order, atomized}

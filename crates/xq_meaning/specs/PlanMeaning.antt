@@ -5,7 +5,7 @@ use Rattle.xq_meaning.specs.declared.plans.PlanClause.{PlanClause, fold-PlanClau
 use Rattle.xq_meaning.specs.declared.plans.PlanStep.{PlanStep, fold-PlanStep}
 use Rattle.xq_meaning.specs.declared.plans.Plan.TheOpen.{Plan-F, PlanClause-F, PlanStep-F}
 use Rattle.xq_atoms.specs.Atom.{Integer, Decimal, String}
-use Rattle.xq_regions.specs.Tuples.{Tuple, value_at}
+use Rattle.xq_trees.specs.Tuples.{Tuple, value_at}
 use Rattle.xq_meaning.specs.Items.{Item}
 use Rattle.xq_meaning.specs.Doing.{Doing, ◌>>=◌, give, refuse, in_turn}
 use Rattle.xq_meaning.specs.Forms

@@ -4,8 +4,8 @@ use Rattle.xq_atoms.specs.declared.refusals.Code.TheVariants.{ProfReply}
 use Rattle.xq_atoms.specs.Judged.{Judged, only_if}
 use Rattle.xq_atoms.specs.Text.{Text}
 use Rattle.xq_atoms.specs.Print.{print_atomic}
-use Rattle.xq_regions.specs.Tree.{Tree}
-use Rattle.xq_regions.specs.Print.{print}
+use Rattle.xq_trees.specs.Tree.{Tree}
+use Rattle.xq_trees.specs.Print.{print}
 use Rattle.xq_meaning.specs.Texts.{joined}
 use Rattle.xq_meaning.specs.Items.{Item, Node, Atom, tree_below}
 

@@ -7,7 +7,7 @@ use Rattle.xq_atoms.specs.Characters.{is_char}
 use Rattle.xq_atoms.specs.Text.{Text}
 use Rattle.xq_atoms.specs.Atom.{Atomic, Integer, Decimal, String, Boolean, Untyped, is_integer}
 use Rattle.xq_atoms.specs.Decimal.{is_decimal}
-use Rattle.xq_regions.specs.Tree.{Tree, IsTree}
+use Rattle.xq_trees.specs.Tree.{Tree, IsTree}
 use Rattle.xq_meaning.specs.Items.{Item, Node, Atom, tree_below}
 
 -- UTF-8, of characters that a query may hold

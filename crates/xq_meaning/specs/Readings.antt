@@ -2,10 +2,10 @@
 -- nodes before it, the standard by its path.
 use Rattle.std.specs.Prelude.{◌≡◌, ◌++◌, List, map}
 use Rattle.std.specs.List.{AllByRecursion}
-use Rattle.xq_regions.specs.declared.items.Node.{Node as Spot}
-use Rattle.xq_regions.specs.Items.{ItemView, Place as NodeAt, Value}
-use Rattle.xq_regions.specs.Order.{path_at}
-use Rattle.xq_regions.specs.Tree.{Tree}
+use Rattle.xq_trees.specs.declared.items.Node.{Node as Spot}
+use Rattle.xq_trees.specs.Items.{ItemView, Place as NodeAt, Value}
+use Rattle.xq_trees.specs.Order.{path_at}
+use Rattle.xq_trees.specs.Tree.{Tree}
 use Rattle.xq_sources.specs.Sources.{HasNode}
 use Rattle.xq_meaning.specs.Items.{Place, place, Item, Node, Atom, nodes_at}
 

@@ -5,7 +5,7 @@ use Rattle.xq_expressions.specs.declared.expressions.Expr.{Expr}
 use Rattle.xq_meaning.specs.declared.normal_forms.Core.{Core}
 use Rattle.xq_meaning.specs.declared.plans.Plan.{Plan}
 use Rattle.xq_atoms.specs.Text.{Text}
-use Rattle.xq_regions.specs.Tree.{Tree}
+use Rattle.xq_trees.specs.Tree.{Tree}
 use Rattle.xq_meaning.specs.Functions.{Focus}
 use Rattle.xq_meaning.specs.Forms
 use Rattle.xq_meaning.specs.Meaning.{Environment, Frame, bind_all, no_variable, mean}

@@ -2,16 +2,16 @@
 use Rattle.std.proofs.Common.{suc}
 use Rattle.std.specs.Prelude.{ℕ, List, [], ◌∷◌, map, filter, length, reverse, Bool, true, false, Option, Some, None, Ok, Err, if◌then◌else◌}
 use Rattle.xq_atoms.specs.declared.refusals.Code.TheVariants.{XPDY0002, XPDY0050, XPTY0020}
-use Rattle.xq_regions.specs.declared.Kind.{Kind}
-use Rattle.xq_regions.specs.declared.Kind.TheVariants as kind
-use Rattle.xq_regions.specs.declared.Axis.{Axis}
-use Rattle.xq_regions.specs.declared.Axis.TheVariants as axis
+use Rattle.xq_trees.specs.declared.Kind.{Kind}
+use Rattle.xq_trees.specs.declared.Kind.TheVariants as kind
+use Rattle.xq_trees.specs.declared.Axis.{Axis}
+use Rattle.xq_trees.specs.declared.Axis.TheVariants as axis
 use Rattle.xq_meaning.specs.declared.node_tests.Test.{Test}
 use Rattle.xq_meaning.specs.declared.node_tests.Test.TheVariants as test
 use Rattle.xq_atoms.specs.Judged.{Judged}
 use Rattle.xq_atoms.specs.Text.{Text, text_eq}
-use Rattle.xq_regions.specs.Tree.{Tree}
-use Rattle.xq_regions.specs.AxisTests.{on_axis}
+use Rattle.xq_trees.specs.Tree.{Tree}
+use Rattle.xq_trees.specs.AxisTests.{on_axis}
 use Rattle.xq_meaning.specs.Items.{Place, place, Item, Node, root_of, paths, nodes_at, label_at}
 use Rattle.xq_meaning.specs.Arguments.{node_or}
 use Rattle.xq_meaning.specs.Functions.{Focus}

@@ -6,7 +6,7 @@ use Rattle.std.specs.List.{starts_with as starts_by, ends_with as ends_by}
 use Rattle.std.specs.Str.{chars, encode_utf8_all}
 use Rattle.xq_atoms.specs.Text.{Text, is_empty}
 use Rattle.xq_atoms.specs.Characters.{is_space}
-use Rattle.xq_regions.specs.Names.{holds}
+use Rattle.xq_trees.specs.Names.{holds}
 
 -- texts with a separator between them
 abbrev pub joined : Text → List Text → Text

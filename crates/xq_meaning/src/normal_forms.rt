@@ -8,7 +8,7 @@ use xq_atoms::Decimal;
 use xq_expressions::{
     AllowingEmpty, Function, NamedNode, OrderModifier, Quantifier, Sign, Text, UnnamedNode,
 };
-use xq_regions::Axis;
+use xq_trees::Axis;
 
 /// An expression in normal form.
 #[derive(Drop)]

@@ -12,7 +12,7 @@ use xq_atoms::{Code, Decimal};
 use xq_expressions::{
     AllowingEmpty, Function, NamedNode, OrderModifier, Quantifier, Sign, Text, UnnamedNode,
 };
-use xq_regions::Axis;
+use xq_trees::Axis;
 
 /// A plan.
 #[derive(Drop)]

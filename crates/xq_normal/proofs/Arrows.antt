@@ -7,7 +7,7 @@ use Rattle.xq_expressions.specs.declared.expressions.Expr.{Expr, size-Expr}
 use Rattle.xq_expressions.specs.declared.names.QName.{QName}
 use Rattle.xq_expressions.specs.declared.signatures.Function.{Function}
 use Rattle.xq_expressions.specs.Signatures.{function_named, arity, admits}
-use Rattle.xq_regions.specs.Tree.{Tree}
+use Rattle.xq_trees.specs.Tree.{Tree}
 use Rattle.xq_meaning.specs.Items.{Item}
 use Rattle.xq_meaning.specs.Functions.{called}
 use Rattle.xq_meaning.specs.declared.normal_forms.Core.{Core}

@@ -2,8 +2,8 @@
 -- sections 3.3 and 3.3.5).
 use Rattle.std.specs.Prelude.{◌≡◌, List, [], ◌∷◌, map, Some}
 use Rattle.xq_atoms.specs.Text.{Text}
-use Rattle.xq_regions.specs.declared.Axis.{Axis}
-use Rattle.xq_regions.specs.declared.Axis.TheVariants as axis
+use Rattle.xq_trees.specs.declared.Axis.{Axis}
+use Rattle.xq_trees.specs.declared.Axis.TheVariants as axis
 use Rattle.xq_expressions.specs.declared.names.QName.{QName}
 use Rattle.xq_expressions.specs.declared.operators.AxisStep.{AxisStep}
 use Rattle.xq_expressions.specs.declared.operators.AxisStep.TheVariants as along

@@ -7,8 +7,10 @@ ghost use Rattle.xq_atoms.specs.declared.refusals.Want.TheVariants.{Memory};
 ghost use Rattle.xq_meaning.specs.Same.{IsNormalForm};
 ghost use Rattle.xq_normal.specs.DocumentPaths.{StaysDocumentPath};
 
+mod clause_parts;
 mod names;
 mod normal;
+mod path_parts;
 
 use std::alloc::Global;
 use xq_atoms::Want;

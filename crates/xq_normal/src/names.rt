@@ -8,7 +8,7 @@ ghost use Rattle.xq_normal.specs.private.Parts.{admitted};
 use std::alloc::{AllocError, Global};
 use xq_expressions::{AxisName, AxisStep, Function, NodeTest, QName, Text};
 use xq_meaning::Test;
-use xq_regions::Axis;
+use xq_trees::Axis;
 
 /// A copy of a text.
 pub fn text(alloc: Global, text: &Text) -> Result<Text, AllocError>

@@ -9,7 +9,9 @@ ghost use Rattle.xq_meaning.specs.CoreMeaning.{core_mean, core_clause_mean};
 ghost use Rattle.xq_normal.specs.private.Parts as parts;
 ghost use Rattle.xq_normal.specs.private.Shapes as shapes;
 
+use crate::clause_parts::{append_clauses, push_let};
 use crate::names::{axis_step, called, local, text};
+use crate::path_parts::{push_step, simple_map};
 use sqlite_items::{Boxed, Items};
 use std::alloc::{AllocError, Global};
 use xq_expressions::{
@@ -17,7 +19,6 @@ use xq_expressions::{
     ProductOperator, QName, Separator, SetOperator, Sign, Step, Text,
 };
 use xq_meaning::{Core, CoreClause, Operator};
-use xq_normal_parts::{append_clauses, push_let, push_step, simple_map};
 
 /// The normal form of an expression.
 #[cycle(normal)]

@@ -5,9 +5,9 @@ use Rattle.std.specs.Str.{IsUtf8}
 use Rattle.std.proofs.lemmas.Str.{IsUtf8-append, IsUtf8-nil}
 use Rattle.std.proofs.lemmas.List.{append-nil, drop-append-le, drop_more, drop-set-lt, take_more_set, map_more, length-append, length-drop, length-set, length-map, take_all}
 use Rattle.std.proofs.lemmas.List.Elements.{All-nil, All-cons, All-head, All-tail, All-weaker}
-use Rattle.xq_regions.specs.Tree.{most_levels}
-use Rattle.xq_regions.specs.Rows.{Row}
-use Rattle.xq_regions.specs.declared.Kind.TheVariants.{Document}
+use Rattle.xq_trees.specs.Tree.{most_levels}
+use Rattle.xq_trees.specs.Rows.{Row}
+use Rattle.xq_trees.specs.declared.Kind.TheVariants.{Document}
 use Rattle.xq_packed.specs.declared.shapes.Shape.{Shape}
 use Rattle.xq_packed.specs.Packed.{row, with_name, IsNumbered}
 use Rattle.xq_packed.specs.Changes.{moved, AreMovable, longer, with_longer_last, with_size}

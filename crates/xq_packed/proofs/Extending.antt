@@ -1,8 +1,8 @@
 -- Rows added one by one.
 use Rattle.std.proofs.Common.{◌≡◌, ◌<◌, ◌+◌, ℕ, List, [], ◌∷◌, ◌++◌, map, take, length, get_or, string_bytes, refl, sym, ap, ◌∙◌, subst, append_assoc}
 use Rattle.std.proofs.lemmas.List.{map_more}
-use Rattle.xq_regions.specs.declared.NodeRow.{NodeRow}
-use Rattle.xq_regions.specs.Rows.{Row, row_of}
+use Rattle.xq_trees.specs.declared.NodeRow.{NodeRow}
+use Rattle.xq_trees.specs.Rows.{Row, row_of}
 use Rattle.xq_packed.specs.Packed.{Packed, with_name, with_names, IsExtended}
 
 with_names-push : (names : List (List ℕ)) (rows : List Row) (r : Row) → with_names names (rows ++ r ∷ []) ≡ with_name (with_names names rows) r.label.name

@@ -1,4 +1,4 @@
--- Names are distinct where their numbers are.
+-- NameTable are distinct where their numbers are.
 use Rattle.std.proofs.Common.{◌≡◌, ◌↔◌, ◌<◌, ◌+◌, ℕ, zero, suc, List, [], ◌∷◌, ◌++◌, map, take, length, get_or, Bool, true, false, not, ◌||◌, Some, refl, sym, ap, ◌∙◌, subst, arith, if◌then◌else◌}
 use Rattle.std.specs.Prelude.{bytes_eq, nat_eq, nat_lt, IsTrue, IfOk, IfNone, Option, None, Result, Ok, Err}
 use Rattle.std.specs.Cmp.{nat_eq_equiv}
@@ -10,7 +10,7 @@ use Rattle.std.proofs.lemmas.Map.Keys.{IsDistinct-head, IsDistinct-tail, IsDisti
 use Rattle.std.proofs.lemmas.Option.{slice_get-get_or}
 use Rattle.std.proofs.lemmas.Slice.Eq.{bytes_eq-Decides}
 use Rattle.indexmap.specs.IndexSet.{insert_key}
-use Rattle.xq_regions.specs.Rows.{Row, row_name}
+use Rattle.xq_trees.specs.Rows.{Row, row_name}
 use Rattle.xq_packed.specs.declared.shapes.Shape.{Shape}
 use Rattle.xq_packed.specs.private.Shapes.{value_end, name_at, number_of, rows_of_shapes, AreShapes}
 use Rattle.xq_packed.proofs.Numbering.{one-number}

@@ -9,3 +9,9 @@ pub mod Parting
 pub mod Repeating
 pub mod Appending
 pub mod Standing
+pub mod Lowered
+pub mod Trees
+pub mod Naming
+pub mod ValueOrder
+pub mod Places
+pub mod ValueRuns

@@ -148,7 +148,7 @@ unnumbered (x ∷ names) name a zero h e =
     not_first (bytes_eq name x) _ also a
 unnumbered (x ∷ names) name a (suc n) h e = unnumbered names name (apart_rest (bytes_eq name x) _ a) n (omega arith) e
 
--- # Names after others
+-- # NameTable after others
 
 -- a name keeps its number where others follow
 pub numbered-stays : (names more : List Text) (n : ℕ) (name : Text) → IsNumbered names n name → IsNumbered (names ++ more) n name

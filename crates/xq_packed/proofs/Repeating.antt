@@ -6,7 +6,7 @@ use Rattle.std.proofs.lemmas.Str.{IsCharBoundary-from_take}
 use Rattle.std.proofs.lemmas.List.{append-nil, length-drop, length-take, take_more, take_min, take-take, take-append-drop, get_or-drop, get_or-take, get_or_append_left}
 use Rattle.std.proofs.lemmas.List.Elements.{All-head, All-tail}
 use Rattle.std.proofs.lemmas.Option.{slice_get-get_or}
-use Rattle.xq_regions.specs.Rows.{Row}
+use Rattle.xq_trees.specs.Rows.{Row}
 use Rattle.xq_packed.specs.declared.shapes.Shape.{Shape}
 use Rattle.xq_packed.specs.Packed.{Packed}
 use Rattle.xq_packed.specs.private.Shapes.{value_end, last_end, value_start, rows_of_shapes, IsShape, AreShapes, IsKept}
@@ -54,7 +54,7 @@ shifted_more low base from to old first at d t shapes shapes' le lt m k e = (
 pub shape-before : (low base from to : ℕ) (old run new : List Shape) (at : ℕ) (d : Shape) → AreShiftedAfter low base from to old run new → at < length old → get_or new at d ≡ get_or old at d
 shape-before low base from to old run new at d m lt = ap (λ ss. get_or ss at d) m.1 ∙ get_or_append_left old m.0 d at lt
 
--- # Names that are there
+-- # NameTable that are there
 
 -- shapes with the same numbers have the same names
 pub shifted-moved : (names : List Text) (low base from to : ℕ) (run ts : List Shape) → All (IsReadable names low) run → AreShifted low base from to run ts → AreMoved names names low base from to run ts

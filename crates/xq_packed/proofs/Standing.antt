@@ -8,8 +8,8 @@ use Rattle.std.proofs.lemmas.Str.{IsUtf8-append, IsUtf8-nil}
 use Rattle.std.proofs.Math.Seq.{drop-append_seam}
 use Rattle.std.proofs.lemmas.List.{take-append-le, drop-append-le, length-append, length-drop, take_all}
 use Rattle.std.proofs.lemmas.Option.{slice_get-get_or}
-use Rattle.xq_regions.specs.Rows.{Row, row_at}
-use Rattle.xq_regions.specs.declared.Kind.TheVariants.{Document}
+use Rattle.xq_trees.specs.Rows.{Row, row_at}
+use Rattle.xq_trees.specs.declared.Kind.TheVariants.{Document}
 use Rattle.xq_packed.specs.declared.shapes.Shape.{Shape}
 use Rattle.xq_packed.specs.private.Shapes.{value_end, last_end, value_start, text_between, name_at, row_of_shape, rows_of_shapes, IsShape, AreShapes, IsKept, Describes}
 use Rattle.xq_packed.specs.Packed.{Packed, row, with_name, IsNumbered, NoneNamed}

@@ -1,7 +1,7 @@
 -- Rows that are moved or changed.
 use Rattle.std.specs.Prelude.{ℕ, ◌+◌, ◌-◌, ◌<◌, List, [], ◌∷◌, ◌++◌, All, slice_set}
-use Rattle.xq_regions.specs.Tree.{most_levels}
-use Rattle.xq_regions.specs.Rows.{Row, row_at}
+use Rattle.xq_trees.specs.Tree.{most_levels}
+use Rattle.xq_trees.specs.Rows.{Row, row_at}
 
 -- a row on the level to, where it was on the level from; others as far below or above as before
 abbrev pub moved : ℕ → ℕ → Row → Row

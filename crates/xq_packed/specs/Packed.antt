@@ -2,9 +2,9 @@
 use Rattle.std.specs.Prelude.{ℕ, ◌≡◌, ◌↔◌, ◌≢◌, ◌<◌, ◌≤◌, length, List, [], ◌∷◌, ◌++◌, Some, bytes_eq, slice_get, if◌then◌else◌, refl}
 use Rattle.std.specs.List.{list_any}
 use Rattle.std.specs.Coded.{Coded, code_by, coded×, coded_ℕ, coded_list}
-use Rattle.xq_regions.specs.Rows.{Row, row_at}
-use Rattle.xq_regions.specs.Codes.{row_code}
-use Rattle.xq_regions.specs.declared.Kind.{Kind}
+use Rattle.xq_trees.specs.Rows.{Row, row_at}
+use Rattle.xq_trees.specs.Codes.{row_code}
+use Rattle.xq_trees.specs.declared.Kind.{Kind}
 
 -- rows, and the distinct names among which theirs are, in the order of their numbers
 pub record Packed : Type 0 where

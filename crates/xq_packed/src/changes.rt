@@ -1,6 +1,6 @@
 //! Rows that are changed where they stand, and a root that is put above them.
 ghost use Rattle.std.specs.Prelude.{◌≡◌, ◌+◌, ◌<◌, ◌↔◌, ◌∷◌, [], map, length, All, IsTrue, IfErr, OnOk, OnErr};
-ghost use Rattle.xq_regions.specs.Tree.{most_levels};
+ghost use Rattle.xq_trees.specs.Tree.{most_levels};
 ghost use Rattle.xq_packed.specs.Packed.{row, with_name};
 ghost use Rattle.xq_packed.specs.Changes.{moved, AreMovable, with_longer_last, with_size};
 ghost use Rattle.xq_packed.specs.private.Shapes.{sunk};
@@ -8,7 +8,7 @@ ghost use Rattle.xq_packed.specs.private.Shapes.{sunk};
 use crate::shapes::{Shape, end_after};
 use crate::{MOST_ROWS, PackedRows};
 use xq_atoms::Want;
-use xq_regions::{Kind, MAX_LEVEL};
+use xq_trees::{Kind, MAX_LEVEL};
 
 /// Whether no row is on the last level that a tree may have.
 fn may_sink(shapes: &[Shape]) -> bool

@@ -1,13 +1,13 @@
 //! How far rows are the same as others.
 ghost use Rattle.std.specs.Prelude.{ℕ, ◌≡◌, ◌≢◌, ◌↔◌, ◌-◌, ◌<◌, ◌≤◌, length, slice_index_or, string_bytes, All, IsTrue};
-ghost use Rattle.xq_regions.specs.Rows.{row_at};
+ghost use Rattle.xq_trees.specs.Rows.{row_at};
 ghost use Rattle.xq_packed.specs.Packed.{AreSame};
 ghost use Rattle.xq_packed.specs.private.Alike.{AreAlike, AreWithin, IsAlike, no_shape};
 ghost use Rattle.xq_packed.specs.private.Copies.{IsKnown};
 ghost use Rattle.xq_packed.specs.private.Shapes.{value_end, name_at};
 
 use crate::PackedRows;
-use crate::names::Names;
+use crate::names::NameTable;
 use crate::shapes::{Shape, start_at};
 
 /// How many numbers of names are kept at hand while rows are compared.
@@ -19,7 +19,7 @@ const TOGETHER: usize = 256;
 /// The places of rows that are compared with others there, and where the values of both begin in
 /// their texts.
 #[derive(Clone, Copy)]
-struct Run {
+struct RowRange {
     low: usize,
     high: usize,
     start: usize,
@@ -31,8 +31,8 @@ struct Run {
 #[inline]
 fn is_same_name(
     known: &mut [Option<(u32, u32)>],
-    names: &Names,
-    others: &Names,
+    names: &NameTable,
+    others: &NameTable,
     number: u32,
     other: u32,
 ) -> bool
@@ -61,11 +61,11 @@ fn is_same_name(
 #[inline]
 fn is_alike(
     known: &mut [Option<(u32, u32)>],
-    names: &Names,
-    others: &Names,
+    names: &NameTable,
+    others: &NameTable,
     mine: Shape,
     its: Shape,
-    run: Run,
+    run: RowRange,
 ) -> bool
     requires some { 0 < length known.old }
     requires known { All (IsKnown others.now names.now) known.old }
@@ -82,7 +82,13 @@ fn is_alike(
 }
 
 /// Whether the rows of runs are the same but for their values, which are as long.
-fn are_alike(names: &Names, others: &Names, mine: &[Shape], its: &[Shape], run: Run) -> bool
+fn are_alike(
+    names: &NameTable,
+    others: &NameTable,
+    mine: &[Shape],
+    its: &[Shape],
+    run: RowRange,
+) -> bool
     requires mine { AreWithin names.now run.start mine.now run.low run.high }
     requires its { AreWithin others.now run.other its.now run.low run.high }
     ensures { IsTrue result
@@ -105,7 +111,7 @@ impl PackedRows {
         requires its { high ≤ length other.now.rows }
         ensures { IsTrue result → AreSame self.now.rows other.now.rows low high }
     {
-        let run = Run {
+        let run = RowRange {
             low,
             high,
             start: start_at(&self.shapes, low),

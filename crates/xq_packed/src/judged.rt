@@ -8,7 +8,7 @@ use crate::shapes::Shape;
 use indexmap::IndexSet;
 use std::alloc::Global;
 use xq_atoms::Want;
-use xq_regions::{Kind, NamedRows, TreeRows};
+use xq_trees::{Kind, NamedRows, TreeRows};
 
 /// How many names are compared one with another. Most nodes have no more attributes, and no table
 /// is made of their names then.

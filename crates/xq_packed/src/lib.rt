@@ -3,27 +3,33 @@
 
 ghost use Rattle.std.specs.Prelude.{map, All, ℕ, ◌≡◌, ◌↔◌, ◌^◌, ◌<◌, ◌++◌, take, ◌∷◌, [], length, string_bytes, slice_get, IfSome, IfNone, IfErr, OnOk, OnErr, IsTrue};
 ghost use Rattle.std.specs.Option.{option_map};
-ghost use Rattle.xq_regions.specs.Tree.{most_levels};
-ghost use Rattle.xq_regions.specs.Rows.{row_of, row_at};
+ghost use Rattle.xq_trees.specs.Tree.{most_levels};
+ghost use Rattle.xq_trees.specs.Rows.{row_of, row_at};
 ghost use Rattle.xq_packed.specs.Packed.{row, with_name, IsExtended, IsNumberOf, NoneNamed};
 ghost use Rattle.xq_packed.specs.private.Shapes.{Describes};
 
 use std::alloc::Global;
 use std::marker::Model;
 use xq_atoms::Want;
-use xq_regions::{Kind, MAX_LEVEL, NodeRow};
+use xq_trees::{Kind, MAX_LEVEL, NodeRow};
 
 mod changes;
 mod equal;
 mod judged;
+mod lists;
 mod names;
+mod packed_tree;
 mod row;
 mod runs;
 mod shapes;
+mod sizes;
+mod value_places;
 
-use names::Names;
+use names::NameTable;
+pub use packed_tree::PackedTree;
 pub use row::PackedRow;
 use shapes::{Shape, end_after, start_at};
+pub use value_places::ValuePlaces;
 
 /// The most rows: their places have four bytes.
 pub const MOST_ROWS: usize = 0xFFFF_FFFF;
@@ -38,7 +44,7 @@ pub struct PackedRows {
     shapes: Vec<Shape>,
     /// The values of the rows, one after another.
     text: String,
-    names: Names,
+    names: NameTable,
 }
 
 impl Model for PackedRows {
@@ -68,7 +74,7 @@ impl PackedRows {
         PackedRows {
             shapes: Vec::new(alloc),
             text: String::new(alloc),
-            names: Names::new(alloc),
+            names: NameTable::new(alloc),
         }
     }
 

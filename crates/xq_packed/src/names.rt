@@ -21,7 +21,7 @@ const BESIDE_A_NAME: usize = 64;
 /// Distinct names, each with its number: how many were added before it. Contracts see them in the
 /// order of their numbers.
 #[derive(Drop)]
-pub struct Names {
+pub struct NameTable {
     /// The first of them.
     few: Vec<String>,
     /// Those after them, where there are more.
@@ -30,7 +30,7 @@ pub struct Names {
     bytes: usize,
 }
 
-impl Model for Names {
+impl Model for NameTable {
     ghost use Rattle.std.specs.Prelude.{ℕ, List, ◌++◌, map, string_bytes};
     ghost use Rattle.std.specs.Coded.{coded_ℕ, coded_list};
 
@@ -53,12 +53,12 @@ fn place_among(names: &[String], name: &str) -> Option<usize>
     names.iter().position(|other| name == other.as_str())
 }
 
-impl Names {
+impl NameTable {
     /// No name.
-    pub fn new(alloc: Global) -> Names
+    pub fn new(alloc: Global) -> NameTable
         ensures { result ≡ [] }
     {
-        Names {
+        NameTable {
             few: Vec::new(alloc),
             many: IndexSet::new(alloc),
             bytes: 0,

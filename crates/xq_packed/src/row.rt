@@ -1,11 +1,11 @@
 //! One row among packed rows, read where it lies.
 ghost use Rattle.std.specs.Prelude.{◌≡◌, ◌<◌, length};
-ghost use Rattle.xq_regions.specs.Rows.{row_at};
+ghost use Rattle.xq_trees.specs.Rows.{row_at};
 ghost use Rattle.xq_packed.specs.Packed.{IsNumbered};
 
 use crate::PackedRows;
 use std::marker::Model;
-use xq_regions::Kind;
+use xq_trees::Kind;
 
 /// A row among packed rows. Contracts see the row and the names of all of them.
 #[derive(Drop)]
@@ -17,7 +17,7 @@ pub struct PackedRow<'a> {
 impl<'a> Model for PackedRow<'a> {
     ghost use Rattle.std.specs.Prelude.{◌<◌, length};
     ghost use Rattle.xq_packed.specs.Packed.{NamedRow, named_code};
-    ghost use Rattle.xq_regions.specs.Rows.{row_at};
+    ghost use Rattle.xq_trees.specs.Rows.{row_at};
 
     ghost Value = { NamedRow };
 

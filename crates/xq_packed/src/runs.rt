@@ -1,17 +1,17 @@
 //! Runs of rows that are copied after others.
 ghost use Rattle.std.specs.Prelude.{ℕ, List, ◌≡◌, ◌+◌, ◌-◌, ◌<◌, ◌≤◌, ◌++◌, map, take, length, slice_range, vec_len, vec_capacity, All, IfOk, IfErr, OnOk, OnErr};
-ghost use Rattle.xq_regions.specs.Tree.{most_levels};
+ghost use Rattle.xq_trees.specs.Tree.{most_levels};
 ghost use Rattle.xq_packed.specs.Packed.{IsNumbered, with_name, with_names};
 ghost use Rattle.xq_packed.specs.Changes.{moved, AreMovable};
 ghost use Rattle.xq_packed.specs.private.Shapes.{value_end, name_at};
 ghost use Rattle.xq_packed.specs.private.Copies.{IsKnown, IsReadable, IsMovedTo, AreMovedAfter, AreShiftedAfter, with_named};
 ghost use Rattle.xq_packed.specs.declared.shapes.Shape.{Shape};
 
-use crate::names::Names;
+use crate::names::NameTable;
 use crate::shapes::{Shape, end_after, start_at};
 use crate::{MOST_ROWS, PackedRows};
 use xq_atoms::Want;
-use xq_regions::MAX_LEVEL;
+use xq_trees::MAX_LEVEL;
 
 /// How many numbers of names are kept at hand while rows are copied.
 const KEPT: usize = 16;
@@ -30,8 +30,8 @@ struct Move {
 /// it is known.
 fn number_again(
     known: &mut [Option<(u32, u32)>],
-    names: &mut Names,
-    others: &Names,
+    names: &mut NameTable,
+    others: &NameTable,
     number: u32,
 ) -> Result<u32, Want>
     requires some { 0 < length known.old }
@@ -85,8 +85,8 @@ fn moved_shape(shape: Shape, name: u32, way: Move) -> Result<Shape, Want>
 /// refused, some of them were added.
 fn append_shapes(
     shapes: &mut Vec<Shape>,
-    names: &mut Names,
-    others: &Names,
+    names: &mut NameTable,
+    others: &NameTable,
     run: &[Shape],
     way: Move,
 ) -> Result<(), Want>

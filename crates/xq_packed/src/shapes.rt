@@ -3,7 +3,7 @@ ghost use Rattle.std.specs.Prelude.{◌≡◌, ◌+◌, ◌*◌, ◌^◌, ◌<�
 ghost use Rattle.xq_packed.specs.private.Shapes.{value_end, value_start};
 
 use xq_atoms::Want;
-use xq_regions::Kind;
+use xq_trees::Kind;
 
 /// The greatest length of a text whose places have six bytes: more than any machine keeps.
 const MOST_TEXT: usize = 0xFFFF_FFFF_FFFF;

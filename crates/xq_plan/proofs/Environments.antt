@@ -5,7 +5,7 @@ use Rattle.std.specs.Option.{option_or}
 use Rattle.std.specs.List.{zip}
 use Rattle.std.proofs.lemmas.List.{length-append}
 use Rattle.xq_atoms.specs.Text.{Text}
-use Rattle.xq_regions.specs.Tuples.{value_at}
+use Rattle.xq_trees.specs.Tuples.{value_at}
 use Rattle.xq_meaning.specs.Items.{Item}
 use Rattle.xq_meaning.specs.Meaning.{Environment, bind, bind_all, no_variable}
 use Rattle.xq_meaning.specs.PlanMeaning.{Slots}

@@ -6,8 +6,8 @@ use Rattle.xq_atoms.specs.Text.{Text}
 use Rattle.xq_atoms.specs.declared.refusals.Code.{Code}
 use Rattle.xq_expressions.specs.declared.operators.AllowingEmpty.{AllowingEmpty}
 use Rattle.xq_expressions.specs.declared.operators.OrderModifier.{OrderModifier}
-use Rattle.xq_regions.specs.Tree.{Tree}
-use Rattle.xq_regions.specs.Tuples.{Tuple}
+use Rattle.xq_trees.specs.Tree.{Tree}
+use Rattle.xq_trees.specs.Tuples.{Tuple}
 use Rattle.xq_meaning.specs.Items.{Item}
 use Rattle.xq_meaning.specs.Arguments.{each}
 use Rattle.xq_meaning.specs.Functions.{Focus}

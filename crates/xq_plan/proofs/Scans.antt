@@ -7,8 +7,8 @@ use Rattle.std.proofs.lemmas.List.Concat.{flat_map-cons}
 use Rattle.xq_atoms.specs.Judged.{◌>>=◌}
 use Rattle.xq_atoms.specs.declared.refusals.Code.{Code}
 use Rattle.xq_atoms.specs.declared.refusals.Code.TheVariants.{XPTY0018, XPTY0019}
-use Rattle.xq_regions.specs.declared.Axis.{Axis}
-use Rattle.xq_regions.specs.Tree.{Tree}
+use Rattle.xq_trees.specs.declared.Axis.{Axis}
+use Rattle.xq_trees.specs.Tree.{Tree}
 use Rattle.xq_meaning.specs.declared.node_tests.Test.{Test}
 use Rattle.xq_meaning.specs.Items.{Place, Item, Node, Atom}
 use Rattle.xq_meaning.specs.Arguments.{all_nodes}
@@ -17,7 +17,7 @@ use Rattle.xq_meaning.specs.Operators.{gathered, nodes_or_atoms, in_order}
 use Rattle.xq_meaning.specs.Steps.{focuses, focuses_from, is_reverse, in_axis_order, axis_nodes}
 use Rattle.xq_meaning.specs.Doing.{Doing, go_on, give, in_turn, more, collected, on_trees, judged}
 use Rattle.xq_meaning.specs.Forms
-use Rattle.xq_regions.proofs.Lists.{map_reverse}
+use Rattle.xq_trees.proofs.Lists.{map_reverse}
 
 order_twice : {A : Type 0} (b : Bool) (xs : List A) →
     (if b then reverse (if b then reverse xs else xs) else (if b then reverse xs else xs)) ≡ xs

@@ -1,7 +1,7 @@
 -- The forms of plans, and what a path comes to that scans a document.
 use Rattle.std.proofs.Common.{◌≡◌, List, [], ◌∷◌, map, Option, Some, None, refl, sym, ap, ◌∙◌, subst}
 use Rattle.xq_atoms.specs.Text.{Text}
-use Rattle.xq_regions.specs.declared.Axis.{Axis}
+use Rattle.xq_trees.specs.declared.Axis.{Axis}
 use Rattle.xq_expressions.specs.declared.signatures.Function.TheVariants.{Doc}
 use Rattle.xq_meaning.specs.declared.node_tests.Test.{Test}
 use Rattle.xq_meaning.specs.declared.normal_forms.Core.{Core, out-Core}

@@ -16,14 +16,14 @@ use Rattle.xq_atoms.specs.declared.refusals.Code.TheVariants.{XPTY0004}
 use Rattle.xq_expressions.specs.declared.operators.AllowingEmpty.{AllowingEmpty}
 use Rattle.xq_expressions.specs.declared.operators.OrderModifier.{OrderModifier}
 use Rattle.xq_atoms.specs.Compare.{Key, Nothing, Number, Characters, Truth, key_eq}
-use Rattle.xq_regions.specs.Tree.{Tree}
-use Rattle.xq_regions.specs.Tuples.{Tuple, Keyed, OrderRule, expanded, with_items, empty_values, item_values, bound, satisfying, grouped, grouped_tuple, grouped_value, slot_key, same_keys, comparison_keys, groups, firsts, are_keys, key_rows, key_value, ordered, can_order, keys_cmp, sort_keys, sorted, inserted}
+use Rattle.xq_trees.specs.Tree.{Tree}
+use Rattle.xq_trees.specs.Tuples.{Tuple, Keyed, OrderRule, expanded, with_items, empty_values, item_values, bound, satisfying, grouped, grouped_tuple, grouped_value, slot_key, same_keys, comparison_keys, groups, firsts, are_keys, key_rows, key_value, ordered, can_order, keys_cmp, sort_keys, sorted, inserted}
 use Rattle.xq_atoms.specs.Atom.{Atomic, Integer}
 use Rattle.xq_meaning.specs.Items.{Item, Atom}
 use Rattle.xq_meaning.specs.Doing.{Doing, Outcome, go_on, give, judged, for_each}
 use Rattle.xq_meaning.specs.Forms
 use Rattle.xq_plan.specs.private.Plans.{AreWide, GivesWide}
-use Rattle.xq_regions.proofs.Lists.{all_append, all_filter}
+use Rattle.xq_trees.proofs.Lists.{all_append, all_filter}
 
 -- what comes of a value
 then_wide : {A : Type 0} (n : ℕ) (o : Outcome A) (k : A → Doing (List (Tuple Item))) →

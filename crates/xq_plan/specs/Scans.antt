@@ -1,7 +1,7 @@
 -- Which plan a path has that scans a document.
 use Rattle.std.specs.Prelude.{◌≡◌, List, [], ◌∷◌, map}
 use Rattle.xq_atoms.specs.Text.{Text}
-use Rattle.xq_regions.specs.declared.Axis.{Axis}
+use Rattle.xq_trees.specs.declared.Axis.{Axis}
 use Rattle.xq_expressions.specs.declared.signatures.Function.TheVariants.{Doc}
 use Rattle.xq_meaning.specs.declared.node_tests.Test.{Test}
 use Rattle.xq_meaning.specs.declared.normal_forms.Core.{Core}

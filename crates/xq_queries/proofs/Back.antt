@@ -8,7 +8,7 @@ use Rattle.xq_meaning.specs.Doing.{Outcome}
 use Rattle.xq_meaning.specs.Meaning.{evaluated}
 use Rattle.xq_readback.specs.Quoted.{quoted_items}
 use Rattle.xq_readback.specs.Readback.{PrintSpells, TokensDerive, QuotedGives}
-use Rattle.xq_printable.specs.Results.{ResultsAreLegible, LegibleIsPrintable}
+use Rattle.xq_readback.specs.Results.{ResultsAreLegible, LegibleIsPrintable}
 use Rattle.xq_queries.specs.Reading.{TokensRead}
 use Rattle.xq_queries.specs.Texts.{characters}
 use Rattle.xq_queries.specs.Values.{Value, value_of, printed}

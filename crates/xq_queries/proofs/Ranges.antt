@@ -3,13 +3,13 @@ use Rattle.std.proofs.Common.{◌≡◌, ℕ, suc, ◌+◌, ◌<◌, ◌≤◌, 
 use Rattle.std.specs.Prelude.{IfOk}
 use Rattle.std.proofs.Math.Seq.{drop-cons}
 use Rattle.std.proofs.lemmas.List.{drop_all}
-use Rattle.xq_regions.specs.declared.items.Item.{Item as Held}
-use Rattle.xq_regions.specs.Items.{ItemView, Place, Value, item_view}
-use Rattle.xq_regions.specs.Tree.{Tree}
+use Rattle.xq_trees.specs.declared.items.Item.{Item as Held}
+use Rattle.xq_trees.specs.Items.{ItemView, Place, Value, item_view}
+use Rattle.xq_trees.specs.Tree.{Tree}
 use Rattle.xq_meaning.specs.Items.{Item}
 use Rattle.xq_meaning.specs.Doing.{Outcome}
 use Rattle.xq_meaning.specs.Readings.{items_at}
-use Rattle.xq_printable.specs.Results.{AreInRange}
+use Rattle.xq_readback.specs.Results.{AreInRange}
 use Rattle.xq_queries.specs.Values.{Value as Valued, value_of}
 use Rattle.xq_queries.specs.ReadBack.{HaveNumbersInRange}
 use Rattle.xq_queries.specs.private.Ranges.{IsViewInRange, AreViewsInRange}

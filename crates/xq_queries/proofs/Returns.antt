@@ -14,13 +14,13 @@ use Rattle.xq_atoms.specs.Cast.{fraction_text}
 use Rattle.xq_atoms.specs.Print.{quoted_character, escaped, quoted, at_least_zero, print_atomic}
 use Rattle.xq_atoms.proofs.ReadBack.{is_whole-decimal}
 use Rattle.xq_atoms.specs.Characters.{is_digit, is_name}
-use Rattle.xq_atom_laws.proofs.Visible.{visible}
-use Rattle.xq_regions.specs.declared.Kind.{Kind}
-use Rattle.xq_regions.specs.declared.Kind.TheVariants as kind
-use Rattle.xq_regions.specs.Names.{are_characters, is_empty, is_attribute_name, is_target, is_instruction}
-use Rattle.xq_regions.specs.Forest.{Forest, end, node, EachNode}
-use Rattle.xq_regions.specs.Tree.{Label, Tree, nodes, is_legal, IsText}
-use Rattle.xq_regions.specs.Print.{opening, listed, comma}
+use Rattle.xq_readback.proofs.Visible.{visible}
+use Rattle.xq_trees.specs.declared.Kind.{Kind}
+use Rattle.xq_trees.specs.declared.Kind.TheVariants as kind
+use Rattle.xq_trees.specs.Names.{are_characters, is_empty, is_attribute_name, is_target, is_instruction}
+use Rattle.xq_trees.specs.Forest.{Forest, end, node, EachNode}
+use Rattle.xq_trees.specs.Tree.{Label, Tree, nodes, is_legal, IsText}
+use Rattle.xq_trees.specs.Print.{opening, listed, comma}
 use Rattle.xq_meaning.specs.Items.{Item, Node, Atom, tree_below}
 use Rattle.xq_meaning.specs.Texts.{joined}
 use Rattle.xq_meaning.specs.Print.{print_item, print_items}
@@ -30,7 +30,7 @@ use Rattle.xq_readback.specs.Quoted.{least}
 use Rattle.xq_meaning.specs.Printable.{IsValue, ArePrintable}
 use Rattle.xq_readback.proofs.Names.{all_visible, not-false}
 use Rattle.xq_readback.proofs.Atoms.{below_63, below_least, below_decimal, above_decimal, fraction_is, whole_digits}
-use Rattle.xq_atom_laws.proofs.Decimals.{print-pos, print-minus}
+use Rattle.xq_readback.proofs.Decimals.{print-pos, print-minus}
 
 abbrev plain : ℕ → Bool
 plain b = not (b == 13)

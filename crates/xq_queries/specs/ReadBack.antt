@@ -4,11 +4,11 @@ use Rattle.std.specs.Str.{IsUtf8}
 use Rattle.xq_atoms.specs.Judged.{Judged}
 use Rattle.xq_atoms.specs.Text.{Text}
 use Rattle.xq_expressions.specs.declared.expressions.Expr.{Expr}
-use Rattle.xq_regions.specs.Tree.{Tree}
+use Rattle.xq_trees.specs.Tree.{Tree}
 use Rattle.xq_meaning.specs.Printable.{ArePrintable}
 use Rattle.xq_readback.specs.Same.{SameItems}
-use Rattle.xq_printable.specs.Legible.{AreTrees}
-use Rattle.xq_printable.specs.Results.{AreInRange}
+use Rattle.xq_readback.specs.Legible.{AreTrees}
+use Rattle.xq_readback.specs.Results.{AreInRange}
 use Rattle.xq_queries.specs.Reading.{Reads, IsRead}
 use Rattle.xq_queries.specs.Values.{Value, value, printed}
 

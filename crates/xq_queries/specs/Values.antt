@@ -7,9 +7,9 @@ use Rattle.xq_atoms.specs.declared.refusals.Fault.TheVariants.{Code as OfCode, W
 use Rattle.xq_atoms.specs.declared.refusals.Want.TheVariants.{Memory}
 use Rattle.xq_atoms.specs.Judged.{Judged, ◌>>=◌}
 use Rattle.xq_atoms.specs.Text.{Text}
-use Rattle.xq_regions.specs.Tree.{Tree}
-use Rattle.xq_regions.specs.declared.Kind.{Kind}
-use Rattle.xq_regions.specs.declared.Kind.TheVariants.{Document, Element, Attribute, Text as TextNode, Comment, ProcessingInstruction}
+use Rattle.xq_trees.specs.Tree.{Tree}
+use Rattle.xq_trees.specs.declared.Kind.{Kind}
+use Rattle.xq_trees.specs.declared.Kind.TheVariants.{Document, Element, Attribute, Text as TextNode, Comment, ProcessingInstruction}
 use Rattle.xq_expressions.specs.declared.expressions.Expr.{Expr}
 use Rattle.xq_meaning.specs.Items.{Item, Node, tree_below}
 use Rattle.xq_meaning.specs.Print.{print_items, within_reply}

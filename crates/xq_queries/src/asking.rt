@@ -1,8 +1,8 @@
 //! A plan asked over trees.
 ghost use Rattle.std.specs.Prelude.{◌≡◌, ◌≤◌, ◌++◌, ◌∷◌, [], IfNone, IfOk, IfSome, length, map, string_bytes, string_len};
 ghost use Rattle.xq_atoms.specs.Answers.{GivesUnlessWanting};
-ghost use Rattle.xq_regions.specs.Items.{item_view};
-ghost use Rattle.xq_regions.specs.declared.Kind.TheVariants.{Document};
+ghost use Rattle.xq_trees.specs.Items.{item_view};
+ghost use Rattle.xq_trees.specs.declared.Kind.TheVariants.{Document};
 ghost use Rattle.xq_meaning.specs.Readings.{items_at, AreIn, Extends};
 ghost use Rattle.xq_queries.specs.ReadBack.{HaveNumbersInRange};
 ghost use Rattle.xq_queries.specs.Reads.{ReadsAndCopies, ReadsAndPrints};
@@ -17,9 +17,9 @@ use xq_axes::copy;
 use xq_build::print_items;
 use xq_eval::eval;
 use xq_meaning::Plan;
-use xq_packed_trees::PackedTree;
-use xq_regions::Item;
-use xq_sources::{Addresses, Growing, RowLender};
+use xq_packed::PackedTree;
+use xq_sources::{Addresses, RowLender, TreeStore};
+use xq_trees::Item;
 
 /// The text of the plan's value over the trees of `world`, of which the first are the documents at
 /// `addresses`: its items as expressions that give them. It is refused with the code of the
@@ -33,7 +33,7 @@ use xq_sources::{Addresses, Growing, RowLender};
 /// `Want::Memory` where a growth was refused; `Want::Store` where the trees could not be read. What
 /// was constructed stays in `world`. What is promised holds where `world` is clean as the call
 /// ends.
-pub fn ask<W: Growing>(
+pub fn ask<W: TreeStore>(
     alloc: Global,
     plan: &Plan,
     world: &mut W,
@@ -86,7 +86,7 @@ fn are_in_range(items: &[Item])
 /// anything else. Where the plan is a document by its address and k scans, it reads as [`ask`] does
 /// to evaluate it, and then to copy the node each of its rows once by ranges, and its own singly. A
 /// document that was constructed for it, the last of all trees, is taken from them without a copy.
-pub fn make<W: Growing>(
+pub fn make<W: TreeStore>(
     alloc: Global,
     plan: &Plan,
     world: &mut W,
@@ -115,7 +115,7 @@ pub fn make<W: Growing>(
 
 /// The last of the trees, where it was constructed since there were `earlier` of them and the items
 /// are its root alone: it is taken away and needs no copy. Else None, and all stays as it is.
-fn uprooted<W: Growing>(world: &mut W, earlier: usize, items: &[Item]) -> Option<PackedTree>
+fn uprooted<W: TreeStore>(world: &mut W, earlier: usize, items: &[Item]) -> Option<PackedTree>
     ensures found { IfSome result (λ tree. if_document_lem tree.root.kind tree
         ≡ document (
           items_at (W.forest world.old) (map item_view items.now),
@@ -134,7 +134,7 @@ fn uprooted<W: Growing>(world: &mut W, earlier: usize, items: &[Item]) -> Option
     if node.pre != 0 || node.tree != last || last < earlier {
         return None;
     }
-    world.uproot()
+    world.take_last()
 }
 
 /// The tree, where its root is a document node.

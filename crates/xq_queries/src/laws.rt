@@ -2,8 +2,9 @@
 ghost use Rattle.xq_queries.specs.ReadBack.{ReadsBack, ValuesArePrintable};
 ghost use Rattle.xq_queries.specs.Reading.{ReadsAtMostOnce, FaultsComeLater};
 
-use xq_printable::{legible_is_printable, results_are_legible};
-use xq_readback::{print_spells, quoted_gives, tokens_derive};
+use xq_readback::{
+    legible_is_printable, print_spells, quoted_gives, results_are_legible, tokens_derive,
+};
 
 /// A text has one reading: an expression, or one code.
 pub fn reads_at_most_once()

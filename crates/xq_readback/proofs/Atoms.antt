@@ -15,14 +15,14 @@ use Rattle.xq_atoms.specs.Print.{at_least_zero}
 use Rattle.xq_atoms.proofs.ReadBack.{is_whole-decimal, integer_literal-decimal}
 use Rattle.xq_atoms.specs.Characters.{is_char, is_digit, is_name_start, is_name_char}
 use Rattle.xq_lexer.specs.Chars.{begins}
-use Rattle.xq_atom_laws.proofs.Decimals.{decimal_literal-printed, fraction-digits}
+use Rattle.xq_readback.proofs.Decimals.{decimal_literal-printed, fraction-digits}
 use Rattle.xq_lexer.specs.declared.tokens.Symbol.TheVariants as s
 use Rattle.xq_lexer.specs.Literals.{integer, decimal}
 use Rattle.xq_lexer.specs.Spelling.{name, prefixed, number, symbol, IsName}
 use Rattle.xq_lexer.specs.Reading.{read_token, read_name, after_name}
 use Rattle.xq_readback.specs.Quoted.{least}
 use Rattle.xq_meaning.specs.Printable.{IsValue}
-use Rattle.xq_atom_laws.proofs.Strings.{literal, piece, are_pieces}
+use Rattle.xq_readback.proofs.Strings.{literal, piece, are_pieces}
 use Rattle.xq_readback.proofs.Marks.{Mark, marks_text, IsThere, AreThere, skip_none, called_name, open_there, closed_there, minus_there, string_there}
 use Rattle.xq_readback.proofs.Numbers.{Ends, integer_read, decimal_read, number_there}
 

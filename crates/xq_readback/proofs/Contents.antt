@@ -7,10 +7,10 @@ use Rattle.std.proofs.lemmas.Bool.Decides.{nat_tests, same_from_decides}
 use Rattle.std.proofs.lemmas.List.{get_or_append_left}
 use Rattle.std.proofs.lemmas.Slice.Eq.{bytes_eq-Decides}
 use Rattle.xq_atoms.specs.Text.{Text}
-use Rattle.xq_regions.specs.declared.Kind.{Kind}
-use Rattle.xq_regions.specs.declared.Kind.TheVariants as kind
-use Rattle.xq_regions.specs.Forest.{Forest, end, node, count, tops, join, IsWithinHeight}
-use Rattle.xq_regions.specs.Tree.{Label, Tree, nodes, is_attribute, may_stand, may_follow, may_precede, has_text, is_content, attribute_names, most_levels, most_nodes}
+use Rattle.xq_trees.specs.declared.Kind.{Kind}
+use Rattle.xq_trees.specs.declared.Kind.TheVariants as kind
+use Rattle.xq_trees.specs.Forest.{Forest, end, node, count, tops, join, IsWithinHeight}
+use Rattle.xq_trees.specs.Tree.{Label, Tree, nodes, is_attribute, may_stand, may_follow, may_precede, has_text, is_content, attribute_names, most_levels, most_nodes}
 use Rattle.xq_sources.specs.Sources.{tree_at, no_tree}
 use Rattle.xq_meaning.specs.Items.{Item, Node, root_of}
 use Rattle.xq_meaning.specs.Content.{is_text, label, copied, flattened, in_front, merged, in_front_unless, is_empty_text, without_empty_texts, content, attribute_fault, first_fault, is_within_height, within_limits, unless_fault, built}

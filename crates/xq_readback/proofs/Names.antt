@@ -12,10 +12,10 @@ use Rattle.xq_atoms.specs.Text.{Text}
 use Rattle.xq_atoms.specs.Atom.{String}
 use Rattle.xq_atoms.specs.Characters.{is_space, is_name, is_name_start, is_name_char}
 use Rattle.xq_atoms.specs.Spaces.{trimmed}
-use Rattle.xq_atom_laws.proofs.Visible.{visible, trimmed-visible}
+use Rattle.xq_readback.proofs.Visible.{visible, trimmed-visible}
 use Rattle.xq_lexer.proofs.Forms.{name_chars}
 use Rattle.xq_expressions.specs.declared.operators.NamedNode.TheVariants as named
-use Rattle.xq_regions.specs.Names.{is_attribute_name, is_target, is_xml}
+use Rattle.xq_trees.specs.Names.{is_attribute_name, is_target, is_xml}
 use Rattle.xq_meaning.specs.Content.{judged_name, name_of}
 
 visible-high : (b : ℕ) → 128 ≤ b → visible b ≡ true

@@ -11,10 +11,10 @@ use Rattle.xq_lexer.specs.declared.tokens.Symbol.TheVariants as s
 use Rattle.xq_lexer.specs.Nesting.{nesting, greatest, deepest_nesting}
 use Rattle.xq_lexer.proofs.NestingLemmas.{at_most_greatest}
 use Rattle.xq_parser.specs.Look.{Tokens}
-use Rattle.xq_regions.specs.declared.Kind.{Kind}
-use Rattle.xq_regions.specs.declared.Kind.TheVariants as kind
-use Rattle.xq_regions.specs.Forest.{Forest, end, node, IsWithinHeight}
-use Rattle.xq_regions.specs.Tree.{Label, Tree, nodes, most_levels}
+use Rattle.xq_trees.specs.declared.Kind.{Kind}
+use Rattle.xq_trees.specs.declared.Kind.TheVariants as kind
+use Rattle.xq_trees.specs.Forest.{Forest, end, node, IsWithinHeight}
+use Rattle.xq_trees.specs.Tree.{Label, Tree, nodes, most_levels}
 use Rattle.xq_meaning.specs.Items.{Item, Node, Atom, tree_below}
 use Rattle.xq_readback.specs.Quoted.{least, cast_tokens, sign_tokens, atomic_tokens, opening_tokens, node_tokens, item_tokens, more_tokens, items_tokens}
 use Rattle.xq_meaning.specs.Printable.{ArePrintable}

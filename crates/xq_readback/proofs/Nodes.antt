@@ -10,11 +10,11 @@ use Rattle.xq_atoms.specs.Characters.{is_name, is_space}
 use Rattle.xq_atoms.specs.Spaces.{after_leading}
 use Rattle.xq_atoms.specs.Text.{Text}
 use Rattle.xq_atoms.specs.Atom.{String}
-use Rattle.xq_regions.specs.declared.Kind.{Kind}
-use Rattle.xq_regions.specs.declared.Kind.TheVariants as kind
-use Rattle.xq_regions.specs.Names.{is_empty, are_characters, is_attribute_name, is_target, is_instruction, begins_with_space, holds}
-use Rattle.xq_regions.specs.Forest.{Forest, end, node, count, tops, EachNode, IsWithinHeight}
-use Rattle.xq_regions.specs.Tree.{Label, Tree, nodes, is_content, attribute_names, is_legal, IsText, IsTree, most_levels, most_nodes}
+use Rattle.xq_trees.specs.declared.Kind.{Kind}
+use Rattle.xq_trees.specs.declared.Kind.TheVariants as kind
+use Rattle.xq_trees.specs.Names.{is_empty, are_characters, is_attribute_name, is_target, is_instruction, begins_with_space, holds}
+use Rattle.xq_trees.specs.Forest.{Forest, end, node, count, tops, EachNode, IsWithinHeight}
+use Rattle.xq_trees.specs.Tree.{Label, Tree, nodes, is_content, attribute_names, is_legal, IsText, IsTree, most_levels, most_nodes}
 use Rattle.xq_sources.specs.Sources.{tree_at, no_tree}
 use Rattle.xq_expressions.specs.declared.expressions.Expr.{Expr}
 use Rattle.xq_expressions.specs.declared.expressions.Expr.TheVariants as e
@@ -31,7 +31,7 @@ use Rattle.xq_meaning.specs.Meaning.{Frame, Meaning, form_meaning, mean}
 use Rattle.xq_meaning.proofs.Equations as mean
 use Rattle.xq_readback.specs.Quoted.{whole, written, made, quoted_nodes, quoted_tree}
 use Rattle.xq_readback.proofs.Contents.{tree, roots, AreMade, tree_more, parts_of, IsBuilt, built-again}
-use Rattle.xq_regions.proofs.Subtrees.{higher}
+use Rattle.xq_trees.proofs.Subtrees.{higher}
 use Rattle.xq_readback.proofs.Names.{element-name, attribute-name, target-name, not-false}
 use Rattle.xq_readback.proofs.Values.{text-gives}
 

@@ -18,10 +18,10 @@ use Rattle.xq_expressions.specs.declared.operators.UnnamedNode.TheVariants as un
 use Rattle.xq_parser.specs.Look.{Tokens, word, lookup, same, same_symbol}
 use Rattle.xq_parser.specs.Rel.{Rel, Many, OneOf, ◌▹◌, ◌∣◌, empty}
 use Rattle.xq_parser.specs.Grammar as g
-use Rattle.xq_regions.specs.declared.Kind.{Kind}
-use Rattle.xq_regions.specs.declared.Kind.TheVariants as kind
-use Rattle.xq_regions.specs.Forest.{Forest, end, node, tops, EachNode, IsWithinHeight}
-use Rattle.xq_regions.specs.Tree.{Label, Tree, is_content}
+use Rattle.xq_trees.specs.declared.Kind.{Kind}
+use Rattle.xq_trees.specs.declared.Kind.TheVariants as kind
+use Rattle.xq_trees.specs.Forest.{Forest, end, node, tops, EachNode, IsWithinHeight}
+use Rattle.xq_trees.specs.Tree.{Label, Tree, is_content}
 use Rattle.xq_meaning.specs.Items.{Item, Node, Atom, tree_below}
 use Rattle.xq_meaning.specs.Content.{label}
 use Rattle.xq_readback.specs.Quoted.{cast, least, with_sign, quoted_atomic, whole, written, made, quoted_nodes, quoted_item, quoted_items, in_parentheses, cast_tokens, sign_tokens, atomic_tokens, opening_tokens, node_tokens, item_tokens, more_tokens, items_tokens}

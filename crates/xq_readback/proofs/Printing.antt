@@ -11,14 +11,14 @@ use Rattle.xq_lexer.specs.Lexeme.{Lex}
 use Rattle.xq_lexer.specs.declared.tokens.Symbol.TheVariants as s
 use Rattle.xq_lexer.specs.Spelling.{name, symbol, form_text, form_lex}
 use Rattle.xq_parser.specs.Look.{word}
-use Rattle.xq_regions.specs.declared.Kind.{Kind}
-use Rattle.xq_regions.specs.declared.Kind.TheVariants as kind
-use Rattle.xq_regions.specs.Forest.{Forest, end, node, EachNode}
-use Rattle.xq_regions.specs.Tree.{Label, IsText}
-use Rattle.xq_regions.specs.Print.{opening, listed, comma}
+use Rattle.xq_trees.specs.declared.Kind.{Kind}
+use Rattle.xq_trees.specs.declared.Kind.TheVariants as kind
+use Rattle.xq_trees.specs.Forest.{Forest, end, node, EachNode}
+use Rattle.xq_trees.specs.Tree.{Label, IsText}
+use Rattle.xq_trees.specs.Print.{opening, listed, comma}
 use Rattle.xq_meaning.specs.Content.{label}
 use Rattle.xq_readback.specs.Quoted.{opening_tokens, node_tokens}
-use Rattle.xq_atom_laws.proofs.Strings.{literal, literal-bytes, content_chars-pieces}
+use Rattle.xq_readback.proofs.Strings.{literal, literal-bytes, content_chars-pieces}
 use Rattle.xq_readback.proofs.Marks.{Mark, gap, marks_text, marks_lexes}
 
 -- the marks of what stands at a node before its attributes and children

@@ -2,7 +2,7 @@
 use Rattle.std.proofs.Common.{true, false, List, [], ◌∷◌, ◌++◌, refl, inl, inr}
 use Rattle.xq_lexer.specs.declared.tokens.Symbol.TheVariants as s
 use Rattle.xq_lexer.specs.Spelling.{symbol}
-use Rattle.xq_regions.specs.Tree.{Tree, nodes}
+use Rattle.xq_trees.specs.Tree.{Tree, nodes}
 use Rattle.xq_meaning.specs.Items.{Item, Node, Atom, tree_below}
 use Rattle.xq_meaning.specs.Printable.{ArePrintable}
 use Rattle.xq_readback.proofs.Marks.{Mark, marks_text, AreThere, comma_there, open_there, closed_there}

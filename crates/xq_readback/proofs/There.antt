@@ -8,14 +8,14 @@ use Rattle.xq_atoms.specs.Text.{Text}
 use Rattle.xq_atoms.specs.Characters.{is_char, is_name, is_name_start, is_name_char}
 use Rattle.xq_lexer.specs.declared.tokens.Symbol.TheVariants as s
 use Rattle.xq_lexer.specs.Spelling.{symbol, IsName}
-use Rattle.xq_regions.specs.declared.Kind.{Kind}
-use Rattle.xq_regions.specs.declared.Kind.TheVariants as kind
-use Rattle.xq_regions.specs.Names.{are_characters, is_empty, is_attribute_name, is_comment, is_target, is_instruction}
-use Rattle.xq_regions.specs.Forest.{Forest, end, node, tops, EachNode}
-use Rattle.xq_regions.specs.Tree.{Label, is_content, is_legal}
+use Rattle.xq_trees.specs.declared.Kind.{Kind}
+use Rattle.xq_trees.specs.declared.Kind.TheVariants as kind
+use Rattle.xq_trees.specs.Names.{are_characters, is_empty, is_attribute_name, is_comment, is_target, is_instruction}
+use Rattle.xq_trees.specs.Forest.{Forest, end, node, tops, EachNode}
+use Rattle.xq_trees.specs.Tree.{Label, is_content, is_legal}
 use Rattle.xq_meaning.specs.Content.{label}
 use Rattle.xq_readback.proofs.Contents.{parts_of}
-use Rattle.xq_atom_laws.proofs.Strings.{literal, piece, are_pieces}
+use Rattle.xq_readback.proofs.Strings.{literal, piece, are_pieces}
 use Rattle.xq_readback.proofs.Marks.{Mark, marks_text, IsThere, AreThere, spaced_name, brace_there, close_there, comma_there, string_there}
 use Rattle.xq_readback.proofs.Printing.{opening_marks, comma_marks, node_marks}
 

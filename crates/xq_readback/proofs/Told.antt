@@ -20,7 +20,7 @@ use Rattle.xq_atoms.specs.Cast.{fraction_text}
 use Rattle.xq_atoms.specs.Print.{quoted, at_least_zero, print_decimal, print_atomic}
 use Rattle.xq_atoms.proofs.TextLemmas.{digits_model}
 use Rattle.xq_atoms.proofs.ReadBack.{is_whole-decimal}
-use Rattle.xq_atom_laws.proofs.Decimals.{printed, decimal_literal-printed, print-pos, print-minus}
+use Rattle.xq_readback.proofs.Decimals.{printed, decimal_literal-printed, print-pos, print-minus}
 use Rattle.xq_atoms.specs.Characters.{is_digit}
 use Rattle.xq_lexer.specs.Lexeme as l
 use Rattle.xq_lexer.specs.Lexeme.{Lex, Placed}
@@ -28,14 +28,14 @@ use Rattle.xq_lexer.specs.declared.tokens.Symbol.TheVariants as s
 use Rattle.xq_lexer.specs.Literals.{integer, decimal, IsNumber}
 use Rattle.xq_lexer.specs.Spelling.{symbol, form_text, form_lex, Spells}
 use Rattle.xq_lexer.proofs.NumberLemmas.{number_encoded}
-use Rattle.xq_regions.specs.Tree.{Tree, nodes}
+use Rattle.xq_trees.specs.Tree.{Tree, nodes}
 use Rattle.xq_meaning.specs.Items.{Item, Node, Atom, tree_below}
 use Rattle.xq_meaning.specs.Texts.{joined}
 use Rattle.xq_meaning.specs.Print.{print_item, print_items}
 use Rattle.xq_readback.specs.Quoted.{least, cast_tokens, sign_tokens, atomic_tokens, item_tokens, more_tokens, items_tokens}
 use Rattle.xq_meaning.specs.Printable.{IsValue, ArePrintable}
 use Rattle.xq_readback.specs.Readback.{PrintSpells}
-use Rattle.xq_atom_laws.proofs.Strings.{literal}
+use Rattle.xq_readback.proofs.Strings.{literal}
 use Rattle.xq_readback.proofs.Marks.{Mark, lexemes, marks_text, marks_lexes, marks_spell}
 use Rattle.xq_readback.proofs.Printing.{literal_lex, literal_bytes, valued_bytes, node_lexes, node_bytes, marks_bytes, bytes-append}
 use Rattle.xq_readback.proofs.Atoms.{cast_marks, integer_mark, decimal_mark, integer_marks, atomic_marks, below_63, below_least, below_decimal, above_decimal, fraction_is, whole_digits, first_digit}

@@ -19,10 +19,10 @@ use Rattle.xq_statics.specs.Faults.{first_fault, call_fault}
 use Rattle.xq_statics.specs.Statics.{Places, places, form_places, static_fault, each}
 use Rattle.xq_statics.proofs.Equations as at
 use Rattle.xq_statics.proofs.Judging.{first-append}
-use Rattle.xq_regions.specs.declared.Kind.{Kind}
-use Rattle.xq_regions.specs.declared.Kind.TheVariants as kind
-use Rattle.xq_regions.specs.Forest.{Forest, end, node}
-use Rattle.xq_regions.specs.Tree.{Label, Tree}
+use Rattle.xq_trees.specs.declared.Kind.{Kind}
+use Rattle.xq_trees.specs.declared.Kind.TheVariants as kind
+use Rattle.xq_trees.specs.Forest.{Forest, end, node}
+use Rattle.xq_trees.specs.Tree.{Label, Tree}
 use Rattle.xq_meaning.specs.Items.{Item, Node, Atom, tree_below}
 use Rattle.xq_readback.specs.Quoted.{cast, least, with_sign, quoted_atomic, whole, written, made, quoted_nodes, quoted_item, quoted_items}
 

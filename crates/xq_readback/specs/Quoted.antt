@@ -15,10 +15,10 @@ use Rattle.xq_expressions.specs.declared.operators.UnnamedNode.TheVariants as un
 use Rattle.xq_expressions.specs.declared.operators.Sign.TheVariants.{Minus}
 use Rattle.xq_parser.specs.Look.{Tokens, word}
 use Rattle.xq_parser.specs.Grammar.{unprefixed, with_prefix}
-use Rattle.xq_regions.specs.declared.Kind.{Kind}
-use Rattle.xq_regions.specs.declared.Kind.TheVariants as kind
-use Rattle.xq_regions.specs.Forest.{Forest, end, node}
-use Rattle.xq_regions.specs.Tree.{Label, Tree, nodes}
+use Rattle.xq_trees.specs.declared.Kind.{Kind}
+use Rattle.xq_trees.specs.declared.Kind.TheVariants as kind
+use Rattle.xq_trees.specs.Forest.{Forest, end, node}
+use Rattle.xq_trees.specs.Tree.{Label, Tree, nodes}
 use Rattle.xq_meaning.specs.Items.{Item, Node, Atom, tree_below}
 
 -- # Expressions

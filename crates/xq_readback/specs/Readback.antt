@@ -7,7 +7,7 @@ use Rattle.xq_lexer.specs.Nesting.{deepest_nesting, nesting}
 use Rattle.xq_lexer.specs.Spelling.{Spells}
 use Rattle.xq_parser.specs.Grammar.{Derives}
 use Rattle.xq_statics.specs.Statics.{static_fault}
-use Rattle.xq_regions.specs.Tree.{Tree}
+use Rattle.xq_trees.specs.Tree.{Tree}
 use Rattle.xq_meaning.specs.Items.{Item}
 use Rattle.xq_meaning.specs.Print.{print_items}
 use Rattle.xq_meaning.specs.Printable.{ArePrintable}

@@ -1,7 +1,7 @@
 -- Results that are equal by value, over the trees of each: XDM 3.1, sections 2.3 and 6. Identity,
 -- parents, and whether two items are one node are not compared.
 use Rattle.std.specs.Prelude.{◌≡◌, List, [], ◌∷◌}
-use Rattle.xq_regions.specs.Tree.{Tree}
+use Rattle.xq_trees.specs.Tree.{Tree}
 use Rattle.xq_meaning.specs.Items.{Item, Node, Atom, tree_below}
 
 -- an atomic value of the same type and value, or a node with an equal subtree

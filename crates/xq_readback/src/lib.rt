@@ -4,6 +4,15 @@
 
 ghost use Rattle.xq_readback.specs.Readback.{PrintSpells, QuotedGives, TokensDerive};
 
+mod atom_laws;
+mod printable;
+
+pub use atom_laws::{
+    decimal_reads_back, integer_reads_back, rounds_to_whole_numbers, stands_by_characters,
+    string_reads_back,
+};
+pub use printable::{legible_is_printable, results_are_legible};
+
 /// The printed form of a result spells the tokens of its quoted expression and no others, and has
 /// no fault (XQuery 3.1, appendix A.2), where it is UTF-8, as each `String` is.
 pub fn print_spells()

@@ -2,8 +2,8 @@
 
 use std::alloc::{AllocError, Global};
 use xq_atoms::Want;
-use xq_regions::{Fragment, Kind, Node, NodeRow};
-use xq_sources::{Fragments, LentRow, LentRows};
+use xq_sources::{ConstructedTrees, LentRow, LentRows};
+use xq_trees::{Kind, Node, NodeRow, RowTree};
 
 /// A row: pre, size, level, kind, name, value.
 pub type Row = (u32, u32, u32, Kind, &'static str, &'static str);
@@ -74,25 +74,25 @@ pub fn rows_of(alloc: Global, rows: &[Row]) -> Result<Vec<NodeRow>, AllocError> 
 }
 
 /// The tree with these rows, which are those of one.
-pub fn judged(rows: Vec<NodeRow>) -> Result<Fragment, Want> {
-    match Fragment::from_rows(rows) {
+pub fn judged(rows: Vec<NodeRow>) -> Result<RowTree, Want> {
+    match RowTree::from_rows(rows) {
         Ok(tree) => Ok(tree),
         Err(_rows) => Err(Want::Store),
     }
 }
 
 /// The tree with these rows.
-pub fn tree_of(alloc: Global, rows: &[Row]) -> Result<Fragment, Want> {
+pub fn tree_of(alloc: Global, rows: &[Row]) -> Result<RowTree, Want> {
     judged(rows_of(alloc, rows)?)
 }
 
 /// The library with two books.
-pub fn library(alloc: Global) -> Result<Fragment, Want> {
+pub fn library(alloc: Global) -> Result<RowTree, Want> {
     tree_of(alloc, &LIBRARY)
 }
 
 /// The great library.
-pub fn great_library(alloc: Global) -> Result<Fragment, Want> {
+pub fn great_library(alloc: Global) -> Result<RowTree, Want> {
     let mut rows = rows_of(
         alloc,
         &[
@@ -123,7 +123,7 @@ fn push_marks(alloc: Global, rows: &mut Vec<NodeRow>, place: u32) -> Result<(), 
 }
 
 /// The register.
-pub fn register(alloc: Global) -> Result<Fragment, Want> {
+pub fn register(alloc: Global) -> Result<RowTree, Want> {
     let last = 11 * ENTRIES + 1;
     let mut rows = rows_of(
         alloc,
@@ -181,9 +181,9 @@ pub fn are_rows_at(rows: &LentRows<'_>, document: &[Row], places: &[usize]) -> b
     rows.len() == places.len()
 }
 
-/// Fragments with this tree alone.
-pub fn held(alloc: Global, tree: Fragment) -> Result<Fragments, Want> {
-    let mut fragments = Fragments::new(alloc);
+/// ConstructedTrees with this tree alone.
+pub fn held(alloc: Global, tree: RowTree) -> Result<ConstructedTrees, Want> {
+    let mut fragments = ConstructedTrees::new(alloc);
     fragments.push(tree)?;
     Ok(fragments)
 }

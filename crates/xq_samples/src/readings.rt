@@ -4,7 +4,7 @@
 use crate::documents::{EMPTY, LIBRARY, Row, are_rows_at, tree_of};
 use std::alloc::Global;
 use xq_atoms::Want;
-use xq_sources::{Fragments, LentRows, Meter, RowLender, RowSource};
+use xq_sources::{ConstructedTrees, LentRows, Meter, RowLender, RowSource};
 
 /// What is read of a tree.
 #[derive(Clone, Copy)]
@@ -59,9 +59,9 @@ fn places_of(wanted: Option<&'static [usize]>) -> &'static [usize] {
     }
 }
 
-/// Fragments with both trees.
-pub fn both(alloc: Global) -> Result<Fragments, Want> {
-    let mut fragments = Fragments::new(alloc);
+/// ConstructedTrees with both trees.
+pub fn both(alloc: Global) -> Result<ConstructedTrees, Want> {
+    let mut fragments = ConstructedTrees::new(alloc);
     for tree in 0..2 {
         fragments.push(tree_of(alloc, document(tree))?)?;
     }

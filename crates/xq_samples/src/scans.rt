@@ -6,8 +6,8 @@ use std::alloc::{AllocError, Global};
 use xq_atoms::Want;
 use xq_axes::step;
 use xq_meaning::Test;
-use xq_regions::{Axis, Node};
 use xq_sources::RowLender;
+use xq_trees::{Axis, Node};
 
 /// The nodes that a step goes from.
 #[derive(Clone, Copy)]

@@ -11,9 +11,9 @@ use std::{env, io};
 use xq_command::endings::outcome;
 use xq_command::tasks::Asked;
 use xq_command::words::asked;
-use xq_rows::Store;
+use xq_databases::{DiskStore, MemoryStore};
 use xq_server::{End, Server};
-use xq_stores::{DiskStore, MemoryStore};
+use xq_store::Store;
 
 /// The program ends once it has answered so many frames.
 const MAX_FRAMES: u64 = 1_000_000;

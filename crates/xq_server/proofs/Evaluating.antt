@@ -9,17 +9,17 @@ use Rattle.xq_atoms.specs.Judged.{Judged}
 use Rattle.xq_atoms.specs.Answers.{GivesUnlessWanting}
 use Rattle.xq_atoms.specs.declared.refusals.Fault.{Fault}
 use Rattle.xq_atoms.specs.declared.refusals.Fault.TheVariants.{Code as OfCode, Want as OfWant}
-use Rattle.xq_regions.specs.Tree.{Tree, IsTree}
+use Rattle.xq_trees.specs.Tree.{Tree, IsTree}
 use Rattle.xq_meaning.specs.declared.plans.Plan.{Plan}
 use Rattle.xq_queries.specs.Values.{Value, plan_value, reply_text}
 use Rattle.xq_queries.specs.ReadBack.{HaveNumbersInRange}
 use Rattle.sqlite.specs.Effect.{Database}
-use Rattle.xq_printable.specs.Legible.{AreTrees}
-use Rattle.xq_rows.specs.Documents.{Map, IsStore, IsClean, IsOpen, StandsFor, tree_at, documents_in}
-use Rattle.xq_rows.specs.Labels.{shown_rows}
-use Rattle.xq_rows.proofs.Keys.{values_are, get_at}
-use Rattle.xq_rows.proofs.Ranges.{own_document}
-use Rattle.xq_rows.specs.Views.{Beginning, HeldDocuments, StoodFor, WasClean, WasOpen, beginning}
+use Rattle.xq_readback.specs.Legible.{AreTrees}
+use Rattle.xq_store.specs.Documents.{Map, IsStore, IsClean, IsOpen, StandsFor, tree_at, documents_in}
+use Rattle.xq_store.specs.Labels.{shown_rows}
+use Rattle.xq_store.proofs.Keys.{values_are, get_at}
+use Rattle.xq_store.proofs.Ranges.{own_document}
+use Rattle.xq_store.specs.Views.{Beginning, HeldDocuments, StoodFor, WasClean, WasOpen, beginning}
 use Rattle.xq_sources.specs.Meters.{Readings, no_readings}
 use Rattle.xq_sources.specs.Sums.{sum}
 use Rattle.xq_server.specs.private.Work.{Makes, MakesText}

@@ -16,14 +16,14 @@ use Rattle.xq_atoms.specs.declared.refusals.Fault.{Fault}
 use Rattle.xq_atoms.specs.declared.refusals.Fault.TheVariants.{Code as OfCode, Want as OfWant}
 use Rattle.xq_atoms.specs.declared.refusals.Want.{Want}
 use Rattle.xq_atoms.specs.declared.refusals.Want.TheVariants.{Memory, Store}
-use Rattle.xq_regions.specs.Tree.{Tree}
+use Rattle.xq_trees.specs.Tree.{Tree}
 use Rattle.xq_meaning.specs.declared.plans.Plan.{Plan}
 use Rattle.xq_queries.specs.Reading.{ReadsAtMostOnce, FaultsComeLater}
-use Rattle.xq_printable.specs.Legible.{AreTrees}
+use Rattle.xq_readback.specs.Legible.{AreTrees}
 use Rattle.xq_queries.specs.ReadBack.{ReadsBack, ValuesArePrintable}
 use Rattle.xq_queries.specs.Values.{Plans, Value, plan_value, printed, reply_text as text_of, document, or_no_document, made_document}
-use Rattle.xq_rows.specs.Documents.{Map}
-use Rattle.xq_rows.specs.declared.stores.Put.TheVariants.{Stored as Fresh, Replaced as Other}
+use Rattle.xq_store.specs.Documents.{Map}
+use Rattle.xq_store.specs.declared.stores.Put.TheVariants.{Stored as Fresh, Replaced as Other}
 use Rattle.xq_frame.specs.Request.{RequestMeaning, query, put, remove as remove_one}
 use Rattle.xq_server.specs.Meaning.{value}
 use Rattle.xq_server.specs.Answer.{Outcome, Answers, CarriesOut, RefusesRequest, success, refusal, query_outcome, put_outcome, put_document, put_word, remove_outcome}

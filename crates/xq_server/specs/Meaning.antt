@@ -5,8 +5,8 @@ use Rattle.std.specs.Prelude.{ℕ, List, Option, Result}
 use Rattle.std.specs.FinMap.{keys, values}
 use Rattle.xq_atoms.specs.declared.refusals.Code.{Code}
 use Rattle.xq_expressions.specs.declared.expressions.Expr.{Expr}
-use Rattle.xq_regions.specs.Tree.{Tree}
-use Rattle.xq_rows.specs.Documents.{Map}
+use Rattle.xq_trees.specs.Tree.{Tree}
+use Rattle.xq_store.specs.Documents.{Map}
 use Rattle.xq_queries.specs.Reading as reading
 use Rattle.xq_queries.specs.Values as values_of
 

@@ -2,7 +2,7 @@
 ghost use Rattle.std.specs.Prelude.{◌≡◌, IfOk, MatchResult};
 ghost use Rattle.xq_atoms.specs.Address.{IsAddress};
 ghost use Rattle.xq_atoms.specs.declared.refusals.Code.TheVariants.{ProfAddress};
-ghost use Rattle.xq_rows.specs.Documents.{IsClean, IsOpen, Map, StandsFor};
+ghost use Rattle.xq_store.specs.Documents.{IsClean, IsOpen, Map, StandsFor};
 ghost use Rattle.xq_frame.specs.Request.{request_meaning, query, put, remove as remove_one, list};
 ghost use Rattle.xq_server.specs.private.Work.{GivesDocument, HasDocumentRoot, Tells, IsShort};
 
@@ -13,9 +13,9 @@ use sqlite::Alter;
 use std::alloc::Global;
 use xq_atoms::{Code, Fault, address_ok};
 use xq_frame::Request;
-use xq_packed_trees::PackedTree;
+use xq_packed::PackedTree;
 use xq_queries::{reads_at_most_once, reads_back, values_are_printable};
-use xq_rows::{Put, Store};
+use xq_store::{Put, Store};
 
 /// What a request is told that isn't refused.
 #[derive(Drop)]

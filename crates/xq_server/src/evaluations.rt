@@ -4,10 +4,10 @@
 //! nothing of a query changes a document.
 ghost use Rattle.std.specs.Prelude.{◌≡◌, ◌≤◌, IfOk, length};
 ghost use Rattle.std.specs.FinMap.{keys, values};
-ghost use Rattle.xq_printable.specs.Legible.{AreTrees};
+ghost use Rattle.xq_readback.specs.Legible.{AreTrees};
 ghost use Rattle.xq_queries.specs.Values.{plan_value};
-ghost use Rattle.xq_rows.specs.Documents.{IsClean, IsOpen, Map, StandsFor};
-ghost use Rattle.xq_rows.specs.Views.{beginning};
+ghost use Rattle.xq_store.specs.Documents.{IsClean, IsOpen, Map, StandsFor};
+ghost use Rattle.xq_store.specs.Views.{beginning};
 ghost use Rattle.xq_sources.specs.Meters.{no_readings};
 ghost use Rattle.xq_server.specs.private.Work.{Makes};
 
@@ -18,8 +18,8 @@ use std::alloc::Global;
 use std::marker::{Brand, PhantomData};
 use xq_atoms::Fault;
 use xq_meaning::Plan;
-use xq_rows::{Origin, Store, View};
 use xq_sources::{Addresses, TreeSource, Trees};
+use xq_store::{Origin, Store, View};
 
 /// What the plan's value makes over the documents of the store, which stay as they are. Where it
 /// makes a product, the documents are trees.
@@ -100,7 +100,7 @@ fn over_view<S: Alter + Drop, P: Product, O: Origin>(
         Ok(addresses) => addresses,
         Err(want) => return (view.into_store(), Err(Fault::Want(want))),
     };
-    let (world, product) = through(alloc, view, plan, &addresses);
+    let (world, product) = run_on_view(alloc, view, plan, &addresses);
     (world.into_source().into_store(), product)
 }
 
@@ -110,7 +110,7 @@ fn over_view<S: Alter + Drop, P: Product, O: Origin>(
 /// Their meter shows what was read, since the view began with none: the rows that were asked for,
 /// each time that they were lent. What a view reads ahead of that, 1,024 rows at a time, or on the
 /// way to a place, is not asked for and not counted.
-fn through<S: Alter + Drop, P: Product, O: Origin>(
+fn run_on_view<S: Alter + Drop, P: Product, O: Origin>(
     alloc: Global,
     view: View<S, O>,
     plan: &Plan,

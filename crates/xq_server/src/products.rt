@@ -2,7 +2,7 @@
 ghost use Rattle.std.specs.Prelude.{◌≤◌, List, IfOk, length};
 ghost use Rattle.xq_atoms.specs.Judged.{Judged};
 ghost use Rattle.xq_atoms.specs.Text.{Text};
-ghost use Rattle.xq_regions.specs.Tree.{Tree};
+ghost use Rattle.xq_trees.specs.Tree.{Tree};
 ghost use Rattle.xq_sources.specs.Meters.{Readings};
 ghost use Rattle.xq_meaning.specs.declared.plans.Plan.{Plan as PlanLem};
 ghost use Rattle.xq_queries.specs.Reads.{ReadsAndCopies, ReadsAndPrints};
@@ -12,9 +12,9 @@ ghost use Rattle.xq_server.specs.private.Work.{Makes, MakesText, MakesDocument, 
 use std::alloc::Global;
 use xq_atoms::Fault;
 use xq_meaning::Plan;
-use xq_packed_trees::PackedTree;
+use xq_packed::PackedTree;
 use xq_queries::{ask, make};
-use xq_sources::{Addresses, Growing};
+use xq_sources::{Addresses, TreeStore};
 
 /// The text of a reply, or a document to be stored.
 pub(crate) trait Product: Sized {
@@ -29,7 +29,7 @@ pub(crate) trait Product: Sized {
 
     /// What the plan's value makes over the trees of `world`, of which the first are the documents
     /// at `addresses`.
-    fn of<W: Growing>(
+    fn of<W: TreeStore>(
         alloc: Global,
         plan: &Plan,
         world: &mut W,
@@ -51,7 +51,7 @@ impl Product for String {
 
     ghost has_read = { ReadsAndPrints };
 
-    fn of<W: Growing>(
+    fn of<W: TreeStore>(
         alloc: Global,
         plan: &Plan,
         world: &mut W,
@@ -68,7 +68,7 @@ impl Product for PackedTree {
 
     ghost has_read = { ReadsAndCopies };
 
-    fn of<W: Growing>(
+    fn of<W: TreeStore>(
         alloc: Global,
         plan: &Plan,
         world: &mut W,

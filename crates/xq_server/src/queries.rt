@@ -18,25 +18,25 @@ fn plan_of(alloc: Global, text: &[u8]) -> Result<Plan, Fault>
 }
 
 /// The plan of a query, to be held.
-pub(crate) struct Understood {
+pub(crate) struct QueryPlan {
     pub(crate) plan: Plan,
 }
 
 // It is written out, so that who holds a plan does not go through all of its forms wherever it lets
 // one go.
-impl Drop for Understood {
+impl Drop for QueryPlan {
     fn drop(self) {
-        let Understood { plan: _plan } = self;
+        let QueryPlan { plan: _plan } = self;
     }
 }
 
 /// The same, to be held.
-pub(crate) fn understand(alloc: Global, text: &[u8]) -> Result<Understood, Fault>
+pub(crate) fn understand(alloc: Global, text: &[u8]) -> Result<QueryPlan, Fault>
     ensures { MatchResult result (λ held. Understands text.now (Ok held.plan))
         (λ fault. Understands text.now (Err fault)) }
 {
     match plan_of(alloc, text) {
-        Ok(plan) => Ok(Understood { plan }),
+        Ok(plan) => Ok(QueryPlan { plan }),
         Err(fault) => Err(fault),
     }
 }

@@ -2,7 +2,7 @@
 //! writer.
 ghost use Rattle.std.specs.Prelude.{◌≡◌, ◌+◌, ◌<◌, ◌++◌, ◌⊎◌, OnOk, OnErr, IfErr, vec_len, vec_capacity};
 ghost use Rattle.xq_atoms.specs.declared.refusals.Want.TheVariants.{Memory};
-ghost use Rattle.xq_rows.specs.Documents.{IsClean, IsOpen, StandsFor};
+ghost use Rattle.xq_store.specs.Documents.{IsClean, IsOpen, StandsFor};
 ghost use Rattle.xq_frame.specs.Request.{request_meaning};
 ghost use Rattle.xq_server.specs.Run.{Reply, Answered, RunsTo, long_reply};
 ghost use Rattle.xq_server.specs.Service.{Serves};
@@ -17,7 +17,7 @@ use std::io::{Read, Write};
 use std::marker::Model;
 use xq_atoms::{Code, Fault, Want};
 use xq_frame::{Frame, Next, Taken, Tries, frame_of, next_frame, send, take_message};
-use xq_rows::Store;
+use xq_store::Store;
 
 /// A server over a store of documents. Contracts see the store.
 #[derive(Drop)]

@@ -6,10 +6,10 @@ use sqlite::{Alter, FileStore};
 use std::alloc::Global;
 use std::io::{Read, Write};
 use xq_atoms::Want;
+use xq_databases::MemoryStore;
 use xq_memory_disk::MemoryDisk;
-use xq_rows::Store;
 use xq_server::{End, Server};
-use xq_stores::MemoryStore;
+use xq_store::Store;
 
 /// A server over a store.
 pub fn server_over<S: Alter + Drop>(alloc: Global, store: Store<S>) -> Server<S> {

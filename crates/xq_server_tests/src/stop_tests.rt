@@ -9,9 +9,9 @@ use std::alloc::{AllocError, Global};
 use std::process::Abort;
 use std::test::Fail;
 use xq_atoms::Want;
-use xq_rows::Store;
 use xq_server::{End, Server};
 use xq_stops::{Run, Stop, StoppingStore, Task, wrong_run};
+use xq_store::Store;
 
 /// A request, its kind and its body, and the text of its reply, which has status 0.
 #[derive(Clone, Copy)]

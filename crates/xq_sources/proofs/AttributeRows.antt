@@ -1,9 +1,9 @@
 -- Attributes, row by row.
 use Rattle.std.proofs.Common.{◌≡◌, ℕ, ◌+◌, ◌<◌, ◌≤◌, List, length, true, false, not, inl, inr, sym, ◌∙◌, ap, subst, arith}
 use Rattle.std.proofs.lemmas.Bool.{cases_lt}
-use Rattle.xq_regions.specs.Tree.{is_attribute}
-use Rattle.xq_regions.specs.Rows.{Row}
-use Rattle.xq_regions.specs.RegionTests.{plain_row}
+use Rattle.xq_trees.specs.Tree.{is_attribute}
+use Rattle.xq_trees.specs.Rows.{Row}
+use Rattle.xq_trees.specs.RegionTests.{plain_row}
 use Rattle.xq_sources.specs.AttributeRows.{AreAttributeRows}
 use Rattle.xq_sources.specs.declared.lent.LentRow.{LentRow}
 use Rattle.xq_sources.proofs.Unplaced.{IsGot}

@@ -5,12 +5,12 @@ use Rattle.std.specs.List.{IsDistinct}
 use Rattle.std.specs.Str.{bytes_eq, IsUtf8}
 use Rattle.std.proofs.lemmas.Str.{IsUtf8-nil}
 use Rattle.std.proofs.lemmas.List.Elements.{All-nil, All-cons}
-use Rattle.xq_regions.specs.Beside.{IsLow, MayMeet}
-use Rattle.xq_regions.specs.Tree.{Label, is_legal, has_text, most_levels}
-use Rattle.xq_regions.specs.Rows.{Row, AreRowsOf}
-use Rattle.xq_regions.specs.declared.Kind.{Kind}
-use Rattle.xq_regions.specs.declared.Kind.TheVariants.{Element, Text}
-use Rattle.xq_regions.proofs.Beside.{are-rows-rooted, content-push, names-other, meet-none}
+use Rattle.xq_trees.specs.Beside.{IsLow, MayMeet}
+use Rattle.xq_trees.specs.Tree.{Label, is_legal, has_text, most_levels}
+use Rattle.xq_trees.specs.Rows.{Row, AreRowsOf}
+use Rattle.xq_trees.specs.declared.Kind.{Kind}
+use Rattle.xq_trees.specs.declared.Kind.TheVariants.{Element, Text}
+use Rattle.xq_trees.proofs.Beside.{are-rows-rooted, content-push, names-other, meet-none}
 use Rattle.xq_packed.specs.Packed.{row}
 use Rattle.xq_sources.specs.Grafts.{lone, around_text}
 

@@ -6,7 +6,7 @@ use Rattle.std.proofs.lemmas.Bool.{cases_lt}
 use Rattle.std.proofs.lemmas.List.{length-take, length-drop, get_or-take, get_or-drop, take_min, take-map, drop-map}
 use Rattle.std.proofs.lemmas.List.FromFn.{length-enumerate_from, get_or-enumerate_from}
 use Rattle.std.proofs.lemmas.Option.{slice_get-get_or, slice_get_past}
-use Rattle.xq_regions.specs.Rows.{Row, row_at, no_row}
+use Rattle.xq_trees.specs.Rows.{Row, row_at, no_row}
 use Rattle.xq_sources.specs.Lent.{lent_at, unplaced, placed_between}
 use Rattle.xq_sources.specs.private.Forms.{rows_of_form, AreThere, IsForm}
 use Rattle.xq_sources.specs.declared.lent.Form.{Form}

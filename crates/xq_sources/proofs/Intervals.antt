@@ -3,7 +3,7 @@ use Rattle.std.proofs.Common.{◌≡◌, ℕ, zero, suc, ◌+◌, ◌-◌, ◌<�
 use Rattle.std.specs.Prelude.{filter, cond, nat_le, ◌&&◌}
 use Rattle.std.specs.List.{enumerate_from}
 use Rattle.std.proofs.lemmas.Bool.{and_left, and_right, lt-leb, le-leb}
-use Rattle.xq_regions.specs.Rows.{Row}
+use Rattle.xq_trees.specs.Rows.{Row}
 use Rattle.xq_sources.specs.Sources.{is_between}
 
 filter-keeps : {X : Type 0} (p : X → Bool) (x : X) (xs : List X) → p x ≡ true → filter p (x ∷ xs) ≡ x ∷ filter p xs

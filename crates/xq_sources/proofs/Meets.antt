@@ -8,18 +8,18 @@ use Rattle.std.proofs.lemmas.Option.{get_or_from_slice_get}
 use Rattle.std.proofs.Math.Seq.{drop-append_seam}
 use Rattle.std.proofs.lemmas.Bool.{true≢false}
 use Rattle.std.proofs.lemmas.Slice.Eq.{bytes_eq-Decides}
-use Rattle.xq_regions.specs.Beside.{beside, root_of, root_row, rooted, lowered, lowered_rows, MayMeet}
-use Rattle.xq_regions.specs.Forest.{Forest, count, join}
-use Rattle.xq_regions.specs.Rows.{Row, no_row, row_at, row_name, rows}
-use Rattle.xq_regions.specs.Tree.{Label, Tree, IsText, IsTree, nodes, is_attribute, is_content, is_legal, attribute_names, may_follow, most_nodes}
-use Rattle.xq_regions.specs.Items.{ItemView, Place, Value}
-use Rattle.xq_regions.specs.declared.Kind.{Kind}
-use Rattle.xq_regions.specs.declared.Kind.TheVariants.{Document, Element, Attribute, Text, Comment, ProcessingInstruction}
-use Rattle.xq_regions.proofs.Beside.{lowered_rows-push, length-lowered_rows, are-rows-rooted, low-push, names-attribute, rows-attribute, content-push, may_end, may_end-push, names-other}
+use Rattle.xq_trees.specs.Beside.{beside, root_of, root_row, rooted, lowered, lowered_rows, MayMeet}
+use Rattle.xq_trees.specs.Forest.{Forest, count, join}
+use Rattle.xq_trees.specs.Rows.{Row, no_row, row_at, row_name, rows}
+use Rattle.xq_trees.specs.Tree.{Label, Tree, IsText, IsTree, nodes, is_attribute, is_content, is_legal, attribute_names, may_follow, most_nodes}
+use Rattle.xq_trees.specs.Items.{ItemView, Place, Value}
+use Rattle.xq_trees.specs.declared.Kind.{Kind}
+use Rattle.xq_trees.specs.declared.Kind.TheVariants.{Document, Element, Attribute, Text, Comment, ProcessingInstruction}
+use Rattle.xq_trees.proofs.Beside.{lowered_rows-push, length-lowered_rows, are-rows-rooted, low-push, names-attribute, rows-attribute, content-push, may_end, may_end-push, names-other}
 use Rattle.xq_packed.specs.Packed.{NoneNamed}
 use Rattle.xq_packed.proofs.Numbering.{distinct-more}
 use Rattle.xq_packed.specs.Changes.{moved, resized, with_size, AreMovable}
-use Rattle.xq_packed_trees.proofs.Lowered.{rows-lowered, low-movable}
+use Rattle.xq_packed.proofs.Lowered.{rows-lowered, low-movable}
 use Rattle.xq_sources.specs.Grafts.{lone, side_by_side, IsRoot, Grafts}
 use Rattle.xq_sources.specs.Sources.{no_tree, tree_at}
 use Rattle.xq_sources.specs.private.Meeting.{picked, all_picked, IsPicked, IsGrafted, HaveMet, AreMet, AreRooted, IsNext, MayCome}
@@ -65,7 +65,7 @@ is_next front more ends tree under parent last kind root old new start end same 
       copied = added ∙ ap (λ (qs : List Row). old ++ qs) (rows-lowered (slice_range old start end) ∙ ap (map lowered) part);
     }
 
--- # Names of attributes
+-- # NameIndex of attributes
 
 none_apart : IsDistinct bytes_eq []
 unfolding IsDistinct

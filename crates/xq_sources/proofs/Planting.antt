@@ -6,9 +6,9 @@ use Rattle.std.specs.List.{enumerate_from}
 use Rattle.std.proofs.Math.Seq.{drop-append_seam, take-length}
 use Rattle.std.proofs.lemmas.List.{length-append, length-take, take-append-le, take-take}
 use Rattle.std.proofs.lemmas.Option.{get_or_from_slice_get}
-use Rattle.xq_regions.specs.Tree.{Tree}
-use Rattle.xq_regions.specs.Rows.{Row, tree_of, AreRowsOf}
-use Rattle.xq_regions.specs.Nesting.{tree_of-rows}
+use Rattle.xq_trees.specs.Tree.{Tree}
+use Rattle.xq_trees.specs.Rows.{Row, tree_of, AreRowsOf}
+use Rattle.xq_trees.specs.Nesting.{tree_of-rows}
 use Rattle.xq_packed.specs.Changes.{moved}
 use Rattle.xq_sources.specs.Lent.{placed_between}
 use Rattle.xq_sources.specs.Sources.{no_tree, tree_at}

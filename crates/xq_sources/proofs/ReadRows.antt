@@ -4,17 +4,17 @@ use Rattle.std.specs.Prelude.{slice_get, Option, Some, None}
 use Rattle.std.specs.List.{enumerate_from}
 use Rattle.std.proofs.lemmas.List.FromFn.{length-enumerate_from, get_or-enumerate_from}
 use Rattle.std.proofs.lemmas.Option.{slice_get_within, get_or_from_slice_get}
-use Rattle.xq_regions.specs.Tree.{Tree, nodes}
-use Rattle.xq_regions.specs.Forest.{count}
-use Rattle.xq_regions.specs.declared.NodeRow.{NodeRow}
-use Rattle.xq_regions.specs.Rows.{Row, row_of, row_at, no_row, rows, placed, placed_rows, measured}
-use Rattle.xq_regions.specs.Nesting.{count-measured}
+use Rattle.xq_trees.specs.Tree.{Tree, nodes}
+use Rattle.xq_trees.specs.Forest.{count}
+use Rattle.xq_trees.specs.declared.NodeRow.{NodeRow}
+use Rattle.xq_trees.specs.Rows.{Row, row_of, row_at, no_row, rows, placed, placed_rows, measured}
+use Rattle.xq_trees.specs.Nesting.{count-measured}
 use Rattle.xq_sources.specs.Lent.{placed_lent, placed_between, unplaced}
 use Rattle.xq_sources.specs.declared.lent.LentRow.{LentRow}
 use Rattle.xq_sources.specs.Sources.{rows_between}
 use Rattle.xq_sources.specs.private.Runs.{rows_of_run}
 use Rattle.xq_sources.proofs.Intervals.{between-places}
-use Rattle.xq_regions.proofs.Regions.{length-labels}
+use Rattle.xq_trees.proofs.Regions.{length-labels}
 
 -- no row of any tree
 pub no_rows : (held : Option Tree) → rows_of_run held 1 0 ≡ []

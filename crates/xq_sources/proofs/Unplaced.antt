@@ -3,7 +3,7 @@ use Rattle.std.proofs.Common.{◌≡◌, ◌<◌, ℕ, List, Some, length, sym, 
 use Rattle.std.specs.Prelude.{slice_get}
 use Rattle.std.proofs.lemmas.List.{get_or-map, length-map}
 use Rattle.std.proofs.lemmas.Option.{slice_get_within, get_or_from_slice_get}
-use Rattle.xq_regions.specs.Rows.{Row, row_at, no_row}
+use Rattle.xq_trees.specs.Rows.{Row, row_at, no_row}
 use Rattle.xq_sources.specs.Lent.{row_lent, placed_lent, unplaced}
 use Rattle.xq_sources.specs.declared.lent.LentRow.{LentRow}
 

@@ -1,7 +1,7 @@
 -- The attributes of a node, by the rows after its own.
 use Rattle.std.specs.Prelude.{ℕ, ◌+◌, ◌<◌, ◌≤◌, ◌≡◌, List, length, true, false}
-use Rattle.xq_regions.specs.Rows.{Row, row_at}
-use Rattle.xq_regions.specs.RegionTests.{plain_row}
+use Rattle.xq_trees.specs.Rows.{Row, row_at}
+use Rattle.xq_trees.specs.RegionTests.{plain_row}
 
 -- a node's attributes come before whatever else stands below it: of the rows below v so many are
 -- those of attributes, from the first on, and the one after them, if there is one below v, is not

@@ -1,11 +1,11 @@
 -- Trees that are put together where they are kept: a root, and below it the nodes of others.
 use Rattle.std.specs.Prelude.{ℕ, ◌≡◌, ◌++◌, ◌∷◌, [], List}
 use Rattle.std.specs.List.{AllByRecursion}
-use Rattle.xq_regions.specs.Forest.{Forest, end, node, join}
-use Rattle.xq_regions.specs.Items.{ItemView, Place, Value}
-use Rattle.xq_regions.specs.Tree.{Label, Tree, IsTree, nodes}
-use Rattle.xq_regions.specs.declared.Kind.{Kind}
-use Rattle.xq_regions.specs.declared.Kind.TheVariants.{Element, Text}
+use Rattle.xq_trees.specs.Forest.{Forest, end, node, join}
+use Rattle.xq_trees.specs.Items.{ItemView, Place, Value}
+use Rattle.xq_trees.specs.Tree.{Label, Tree, IsTree, nodes}
+use Rattle.xq_trees.specs.declared.Kind.{Kind}
+use Rattle.xq_trees.specs.declared.Kind.TheVariants.{Element, Text}
 use Rattle.xq_sources.specs.Sources.{tree_at, HasTree}
 
 -- # Trees of few nodes

@@ -1,6 +1,6 @@
 -- What a lender makes ready and lends.
 use Rattle.std.specs.Prelude.{ℕ, ◌≡◌, ◌<◌, List, take, length, Result, Ok, Err}
-use Rattle.xq_regions.specs.Rows.{Row}
+use Rattle.xq_trees.specs.Rows.{Row}
 use Rattle.xq_sources.specs.Meters.{Readings, with_rows}
 
 -- a run of rows: the first of them, and at least one where there is one

@@ -1,7 +1,7 @@
 -- Rows as they are lent.
 use Rattle.std.specs.Prelude.{ℕ, ◌-◌, List, map, take, drop, slice_index_or}
 use Rattle.std.specs.List.{enumerate_from}
-use Rattle.xq_regions.specs.Rows.{Row, no_row}
+use Rattle.xq_trees.specs.Rows.{Row, no_row}
 use Rattle.xq_sources.specs.declared.lent.LentRow.{LentRow}
 
 -- a row that is lent, without its place

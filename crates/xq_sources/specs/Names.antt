@@ -3,9 +3,9 @@ use Rattle.std.specs.Prelude.{ℕ, ◌≡◌, ◌&&◌, List, map, filter, Bool,
 use Rattle.std.specs.Global.{Global, Vec}
 use Rattle.std.specs.HashMap.{HashMap, get_by_text}
 use Rattle.xq_atoms.specs.Text.{Text, text_eq}
-use Rattle.xq_regions.specs.Rows.{Row}
-use Rattle.xq_regions.specs.declared.Kind.{Kind}
-use Rattle.xq_regions.specs.declared.Kind.TheVariants.{Element}
+use Rattle.xq_trees.specs.Rows.{Row}
+use Rattle.xq_trees.specs.declared.Kind.{Kind}
+use Rattle.xq_trees.specs.declared.Kind.TheVariants.{Element}
 
 abbrev pub is_element : Kind → Bool
 is_element Element = true

@@ -1,8 +1,8 @@
 -- A node and its parent, by their rows.
 use Rattle.std.proofs.Common.{suc}
 use Rattle.std.specs.Prelude.{ℕ, ◌<◌, ◌≡◌, List, length, slice_index_or}
-use Rattle.xq_regions.specs.Rows.{Row, row_at}
-use Rattle.xq_regions.specs.Regions.{IsInside}
+use Rattle.xq_trees.specs.Rows.{Row, row_at}
+use Rattle.xq_trees.specs.Regions.{IsInside}
 
 -- the row u is that of the parent of v: v is there, in the rows below u, and one level deeper
 pub record IsParentRow (rs : List Row) (u v : ℕ) : Type 0 where

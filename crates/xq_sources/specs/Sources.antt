@@ -1,9 +1,9 @@
 -- What a source of rows gives, and what it counts.
 use Rattle.std.specs.Prelude.{ℕ, ◌+◌, ◌<◌, Bool, List, filter, length, nat_lt, nat_le, ◌&&◌, Result, Ok, Err, slice_index_or, Vec, vec_len}
-use Rattle.xq_regions.specs.Forest.{count, end}
-use Rattle.xq_regions.specs.Tree.{Tree, no_label, nodes}
-use Rattle.xq_regions.specs.Rows.{Row, placed_rows}
-use Rattle.xq_regions.specs.declared.NodeRow.{NodeRow}
+use Rattle.xq_trees.specs.Forest.{count, end}
+use Rattle.xq_trees.specs.Tree.{Tree, no_label, nodes}
+use Rattle.xq_trees.specs.Rows.{Row, placed_rows}
+use Rattle.xq_trees.specs.declared.NodeRow.{NodeRow}
 use Rattle.xq_sources.specs.Meters.{Readings, with_rows, with_singles}
 
 -- # Trees and places

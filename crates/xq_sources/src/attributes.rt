@@ -1,12 +1,12 @@
 //! How many attributes a node has, by the rows after its own.
 ghost use Rattle.std.specs.Prelude.{◌≡◌, ◌<◌, true, length, IfSome};
-ghost use Rattle.xq_regions.specs.RegionTests.{plain_row};
-ghost use Rattle.xq_regions.specs.Tree.{is_attribute};
+ghost use Rattle.xq_trees.specs.RegionTests.{plain_row};
+ghost use Rattle.xq_trees.specs.Tree.{is_attribute};
 ghost use Rattle.xq_sources.specs.AttributeRows.{AreAttributeRows};
 ghost use Rattle.xq_sources.specs.Lent.{unplaced};
 
 use crate::{LentRow, LentRows};
-use xq_regions::Kind;
+use xq_trees::Kind;
 
 /// Whether a node of this kind is an attribute.
 fn is_of_attribute(row: &LentRow<'_>) -> bool

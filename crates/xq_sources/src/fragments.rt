@@ -1,7 +1,7 @@
 //! Trees in memory.
 ghost use Rattle.std.specs.Prelude.{◌≡◌, ◌+◌, ◌++◌, ◌∷◌, [], map, slice_get, slice_range, true, false, IfNone, IfOk, IfSome, OnErr, OnOk};
-ghost use Rattle.xq_regions.specs.Forest.{end};
-ghost use Rattle.xq_regions.specs.Items.{item_view};
+ghost use Rattle.xq_trees.specs.Forest.{end};
+ghost use Rattle.xq_trees.specs.Items.{item_view};
 ghost use Rattle.xq_sources.specs.Grafts.{lone, around_text, rooted};
 ghost use Rattle.xq_sources.specs.Meters.{no_readings};
 ghost use Rattle.xq_sources.specs.private.Meeting.{IsGrafted};
@@ -9,24 +9,24 @@ ghost use Rattle.xq_sources.specs.private.Runs.{rows_of_run};
 
 use crate::attributes::count_attributes;
 use crate::guides::{guide_to, no_parents};
-use crate::planted::PlantedTrees;
+use crate::planted::TreeArena;
 use crate::rows::{copy_enclosing, copy_rows};
 use crate::{Guide, LentRows, Meter, RowLender, RowSource, TreeSource};
 use std::alloc::Global;
 use xq_atoms::Want;
-use xq_packed_trees::PackedTree;
-use xq_regions::{Fragment, Item, Kind, NodeRow};
+use xq_packed::PackedTree;
+use xq_trees::{Item, Kind, NodeRow, RowTree};
 
 /// The rows of a tree from `low` to `high`.
 #[derive(Clone, Copy)]
-struct Run {
+struct RowRange {
     tree: usize,
     low: u32,
     high: u32,
 }
 
 /// No row of any tree.
-const NO_ROWS: Run = Run {
+const NO_ROWS: RowRange = RowRange {
     tree: 0,
     low: 1,
     high: 0,
@@ -42,22 +42,22 @@ fn between<'a>(rows: &LentRows<'a>, low: u32, high: u32) -> LentRows<'a>
 /// Trees in memory, packed, which give copies of their rows and lend the rows themselves. They are
 /// always clean.
 #[derive(Drop)]
-pub struct Fragments {
-    trees: PlantedTrees,
+pub struct ConstructedTrees {
+    trees: TreeArena,
     /// Where parents lie, at the same places, as far as trees were read.
     guides: Vec<Guide>,
     meter: Meter,
-    run: Run,
+    run: RowRange,
 }
 
-impl Fragments {
+impl ConstructedTrees {
     /// No tree.
-    pub fn new(alloc: Global) -> Fragments
-        ensures empty { ⟦<Fragments as TreeSource>⟧.forest result ≡ [] }
-        ensures unread { ⟦<Fragments as TreeSource>⟧.meter result ≡ no_readings }
+    pub fn new(alloc: Global) -> ConstructedTrees
+        ensures empty { ⟦<ConstructedTrees as TreeSource>⟧.forest result ≡ [] }
+        ensures unread { ⟦<ConstructedTrees as TreeSource>⟧.meter result ≡ no_readings }
     {
-        Fragments {
-            trees: PlantedTrees::new(alloc),
+        ConstructedTrees {
+            trees: TreeArena::new(alloc),
             guides: Vec::new(alloc),
             meter: Meter::new(),
             run: NO_ROWS,
@@ -65,14 +65,14 @@ impl Fragments {
     }
 
     /// Adds a tree after the others; where it is refused, they are as before. No row is lent then.
-    pub fn push(&mut self, tree: Fragment) -> Result<(), Want>
-        ensures ok { OnOk result (⟦<Fragments as TreeSource>⟧.forest self.new
-            ≡ ⟦<Fragments as TreeSource>⟧.forest self.old ++ tree ∷ []) }
-        ensures err { OnErr result (⟦<Fragments as TreeSource>⟧.forest self.new
-            ≡ ⟦<Fragments as TreeSource>⟧.forest self.old) }
-        ensures meter { ⟦<Fragments as TreeSource>⟧.meter self.new
-            ≡ ⟦<Fragments as TreeSource>⟧.meter self.old }
-        ensures lent { ⟦<Fragments as RowLender>⟧.lent self.new ≡ [] }
+    pub fn push(&mut self, tree: RowTree) -> Result<(), Want>
+        ensures ok { OnOk result (⟦<ConstructedTrees as TreeSource>⟧.forest self.new
+            ≡ ⟦<ConstructedTrees as TreeSource>⟧.forest self.old ++ tree ∷ []) }
+        ensures err { OnErr result (⟦<ConstructedTrees as TreeSource>⟧.forest self.new
+            ≡ ⟦<ConstructedTrees as TreeSource>⟧.forest self.old) }
+        ensures meter { ⟦<ConstructedTrees as TreeSource>⟧.meter self.new
+            ≡ ⟦<ConstructedTrees as TreeSource>⟧.meter self.old }
+        ensures lent { ⟦<ConstructedTrees as RowLender>⟧.lent self.new ≡ [] }
     {
         self.run = NO_ROWS;
         let tree = PackedTree::of(*self.guides.allocator(), &tree)?;
@@ -81,13 +81,13 @@ impl Fragments {
 
     /// The same of a tree whose rows are packed.
     pub fn push_packed(&mut self, tree: PackedTree) -> Result<(), Want>
-        ensures ok { OnOk result (⟦<Fragments as TreeSource>⟧.forest self.new
-            ≡ ⟦<Fragments as TreeSource>⟧.forest self.old ++ tree ∷ []) }
-        ensures err { OnErr result (⟦<Fragments as TreeSource>⟧.forest self.new
-            ≡ ⟦<Fragments as TreeSource>⟧.forest self.old) }
-        ensures meter { ⟦<Fragments as TreeSource>⟧.meter self.new
-            ≡ ⟦<Fragments as TreeSource>⟧.meter self.old }
-        ensures lent { ⟦<Fragments as RowLender>⟧.lent self.new ≡ [] }
+        ensures ok { OnOk result (⟦<ConstructedTrees as TreeSource>⟧.forest self.new
+            ≡ ⟦<ConstructedTrees as TreeSource>⟧.forest self.old ++ tree ∷ []) }
+        ensures err { OnErr result (⟦<ConstructedTrees as TreeSource>⟧.forest self.new
+            ≡ ⟦<ConstructedTrees as TreeSource>⟧.forest self.old) }
+        ensures meter { ⟦<ConstructedTrees as TreeSource>⟧.meter self.new
+            ≡ ⟦<ConstructedTrees as TreeSource>⟧.meter self.old }
+        ensures lent { ⟦<ConstructedTrees as RowLender>⟧.lent self.new ≡ [] }
     {
         self.run = NO_ROWS;
         self.trees.push(tree)
@@ -97,16 +97,16 @@ impl Fragments {
     /// did. Where it is refused, they are as before. No row is lent then.
     pub fn push_lone(&mut self, kind: Kind, name: &str, value: &str) -> Result<bool, Want>
         ensures grown { IfOk result (λ did. did ≡ true
-            → ⟦<Fragments as TreeSource>⟧.forest self.new
-            ≡ ⟦<Fragments as TreeSource>⟧.forest self.old ++ lone kind name.now value.now ∷ []) }
+            → ⟦<ConstructedTrees as TreeSource>⟧.forest self.new
+            ≡ ⟦<ConstructedTrees as TreeSource>⟧.forest self.old ++ lone kind name.now value.now ∷ []) }
         ensures left { IfOk result (λ did. did ≡ false
-            → ⟦<Fragments as TreeSource>⟧.forest self.new
-            ≡ ⟦<Fragments as TreeSource>⟧.forest self.old) }
-        ensures kept { OnErr result (⟦<Fragments as TreeSource>⟧.forest self.new
-            ≡ ⟦<Fragments as TreeSource>⟧.forest self.old) }
-        ensures meter { ⟦<Fragments as TreeSource>⟧.meter self.new
-            ≡ ⟦<Fragments as TreeSource>⟧.meter self.old }
-        ensures lent { ⟦<Fragments as RowLender>⟧.lent self.new ≡ [] }
+            → ⟦<ConstructedTrees as TreeSource>⟧.forest self.new
+            ≡ ⟦<ConstructedTrees as TreeSource>⟧.forest self.old) }
+        ensures kept { OnErr result (⟦<ConstructedTrees as TreeSource>⟧.forest self.new
+            ≡ ⟦<ConstructedTrees as TreeSource>⟧.forest self.old) }
+        ensures meter { ⟦<ConstructedTrees as TreeSource>⟧.meter self.new
+            ≡ ⟦<ConstructedTrees as TreeSource>⟧.meter self.old }
+        ensures lent { ⟦<ConstructedTrees as RowLender>⟧.lent self.new ≡ [] }
     {
         self.run = NO_ROWS;
         self.trees.push_lone(kind, name, value)
@@ -115,16 +115,16 @@ impl Fragments {
     /// The same of an element with one text below it.
     pub fn push_around(&mut self, name: &str, value: &str) -> Result<bool, Want>
         ensures grown { IfOk result (λ did. did ≡ true
-            → ⟦<Fragments as TreeSource>⟧.forest self.new
-            ≡ ⟦<Fragments as TreeSource>⟧.forest self.old ++ around_text name.now value.now ∷ []) }
+            → ⟦<ConstructedTrees as TreeSource>⟧.forest self.new
+            ≡ ⟦<ConstructedTrees as TreeSource>⟧.forest self.old ++ around_text name.now value.now ∷ []) }
         ensures left { IfOk result (λ did. did ≡ false
-            → ⟦<Fragments as TreeSource>⟧.forest self.new
-            ≡ ⟦<Fragments as TreeSource>⟧.forest self.old) }
-        ensures kept { OnErr result (⟦<Fragments as TreeSource>⟧.forest self.new
-            ≡ ⟦<Fragments as TreeSource>⟧.forest self.old) }
-        ensures meter { ⟦<Fragments as TreeSource>⟧.meter self.new
-            ≡ ⟦<Fragments as TreeSource>⟧.meter self.old }
-        ensures lent { ⟦<Fragments as RowLender>⟧.lent self.new ≡ [] }
+            → ⟦<ConstructedTrees as TreeSource>⟧.forest self.new
+            ≡ ⟦<ConstructedTrees as TreeSource>⟧.forest self.old) }
+        ensures kept { OnErr result (⟦<ConstructedTrees as TreeSource>⟧.forest self.new
+            ≡ ⟦<ConstructedTrees as TreeSource>⟧.forest self.old) }
+        ensures meter { ⟦<ConstructedTrees as TreeSource>⟧.meter self.new
+            ≡ ⟦<ConstructedTrees as TreeSource>⟧.meter self.old }
+        ensures lent { ⟦<ConstructedTrees as RowLender>⟧.lent self.new ≡ [] }
     {
         self.run = NO_ROWS;
         self.trees.push_around(name, value)
@@ -133,7 +133,7 @@ impl Fragments {
     /// Adds a root without a value after the trees, and below it copies of the trees whose roots
     /// the items are, where these are numbered from a first number on, and says whether it did.
     /// Where it is refused, they are as before. No row is lent then.
-    pub(crate) fn graft(
+    pub(crate) fn append_parent(
         &mut self,
         first: usize,
         kind: Kind,
@@ -142,30 +142,30 @@ impl Fragments {
     ) -> Result<bool, Want>
         ensures grown { IfOk result (λ did. did ≡ true → IsGrafted first
             (rooted kind name.now end).root (map item_view items.now)
-            (⟦<Fragments as TreeSource>⟧.forest self.old)
-            (⟦<Fragments as TreeSource>⟧.forest self.new)) }
+            (⟦<ConstructedTrees as TreeSource>⟧.forest self.old)
+            (⟦<ConstructedTrees as TreeSource>⟧.forest self.new)) }
         ensures left { IfOk result (λ did. did ≡ false
-            → ⟦<Fragments as TreeSource>⟧.forest self.new
-            ≡ ⟦<Fragments as TreeSource>⟧.forest self.old) }
-        ensures kept { OnErr result (⟦<Fragments as TreeSource>⟧.forest self.new
-            ≡ ⟦<Fragments as TreeSource>⟧.forest self.old) }
-        ensures meter { ⟦<Fragments as TreeSource>⟧.meter self.new
-            ≡ ⟦<Fragments as TreeSource>⟧.meter self.old }
-        ensures lent { ⟦<Fragments as RowLender>⟧.lent self.new ≡ [] }
+            → ⟦<ConstructedTrees as TreeSource>⟧.forest self.new
+            ≡ ⟦<ConstructedTrees as TreeSource>⟧.forest self.old) }
+        ensures kept { OnErr result (⟦<ConstructedTrees as TreeSource>⟧.forest self.new
+            ≡ ⟦<ConstructedTrees as TreeSource>⟧.forest self.old) }
+        ensures meter { ⟦<ConstructedTrees as TreeSource>⟧.meter self.new
+            ≡ ⟦<ConstructedTrees as TreeSource>⟧.meter self.old }
+        ensures lent { ⟦<ConstructedTrees as RowLender>⟧.lent self.new ≡ [] }
     {
         self.run = NO_ROWS;
-        self.trees.graft(first, kind, name, items)
+        self.trees.append_parent(first, kind, name, items)
     }
 
     /// Takes the last tree away; none where there is none. No row is lent then.
     pub fn pop(&mut self) -> Option<PackedTree>
-        ensures taken { IfSome result (λ tree. ⟦<Fragments as TreeSource>⟧.forest self.old
-            ≡ ⟦<Fragments as TreeSource>⟧.forest self.new ++ tree ∷ []) }
-        ensures none { IfNone result (⟦<Fragments as TreeSource>⟧.forest self.new
-            ≡ ⟦<Fragments as TreeSource>⟧.forest self.old) }
-        ensures meter { ⟦<Fragments as TreeSource>⟧.meter self.new
-            ≡ ⟦<Fragments as TreeSource>⟧.meter self.old }
-        ensures lent { ⟦<Fragments as RowLender>⟧.lent self.new ≡ [] }
+        ensures taken { IfSome result (λ tree. ⟦<ConstructedTrees as TreeSource>⟧.forest self.old
+            ≡ ⟦<ConstructedTrees as TreeSource>⟧.forest self.new ++ tree ∷ []) }
+        ensures none { IfNone result (⟦<ConstructedTrees as TreeSource>⟧.forest self.new
+            ≡ ⟦<ConstructedTrees as TreeSource>⟧.forest self.old) }
+        ensures meter { ⟦<ConstructedTrees as TreeSource>⟧.meter self.new
+            ≡ ⟦<ConstructedTrees as TreeSource>⟧.meter self.old }
+        ensures lent { ⟦<ConstructedTrees as RowLender>⟧.lent self.new ≡ [] }
     {
         self.run = NO_ROWS;
         let tree = self.trees.pop()?;
@@ -174,7 +174,7 @@ impl Fragments {
     }
 }
 
-impl TreeSource for Fragments {
+impl TreeSource for ConstructedTrees {
     ghost forest = { λ s. s.trees };
 
     ghost meter = { λ s. s.meter };
@@ -190,7 +190,7 @@ impl TreeSource for Fragments {
     }
 }
 
-impl RowSource for Fragments {
+impl RowSource for ConstructedTrees {
     fn range(
         &mut self,
         alloc: Global,
@@ -222,7 +222,7 @@ impl RowSource for Fragments {
     }
 }
 
-impl RowLender for Fragments {
+impl RowLender for ConstructedTrees {
     ghost lent = { λ s. rows_of_run (slice_get s.trees s.run.tree) s.run.low s.run.high };
 
     fn fetch(&mut self, alloc: Global, tree: usize, low: u32, high: u32) -> Result<(), Want> {
@@ -230,7 +230,7 @@ impl RowLender for Fragments {
         let rows = self.trees.rows_of(tree)?;
         guide_to(alloc, &mut self.guides, tree, &rows);
         let count = between(&rows, low, high).len();
-        self.run = Run { tree, low, high };
+        self.run = RowRange { tree, low, high };
         self.meter = self.meter.with_rows(count);
         Ok(())
     }
@@ -242,7 +242,7 @@ impl RowLender for Fragments {
         if node as usize >= rows.len() {
             return Err(Want::Store);
         }
-        self.run = Run {
+        self.run = RowRange {
             tree,
             low: node,
             high: node,

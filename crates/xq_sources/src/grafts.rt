@@ -1,10 +1,10 @@
 //! Trees that are copied below a root, within the list where all of them lie.
 ghost use Rattle.std.specs.Prelude.{List, ◌≡◌, ◌≤◌, ◌++◌, drop, length, map, true, IfOk, IfSome, IsTrue};
 ghost use Rattle.xq_packed.specs.Packed.{NoneNamed};
-ghost use Rattle.xq_regions.specs.Items.{item_view};
-ghost use Rattle.xq_regions.specs.Rows.{Row};
-ghost use Rattle.xq_regions.specs.Tree.{Label, Tree};
-ghost use Rattle.xq_regions.specs.Forest.{end};
+ghost use Rattle.xq_trees.specs.Items.{item_view};
+ghost use Rattle.xq_trees.specs.Rows.{Row};
+ghost use Rattle.xq_trees.specs.Tree.{Label, Tree};
+ghost use Rattle.xq_trees.specs.Forest.{end};
 ghost use Rattle.xq_sources.specs.Grafts.{rooted};
 ghost use Rattle.xq_sources.specs.Sources.{tree_at, HasTree};
 ghost use Rattle.xq_sources.specs.private.Meeting.{picked, AreMet, AreRooted, IsNext, IsPicked, MayCome};
@@ -13,7 +13,7 @@ ghost use Rattle.xq_sources.specs.private.Planted.{trees_after, ArePlanted};
 use crate::planted::start_of;
 use xq_atoms::Want;
 use xq_packed::{PackedRow, PackedRows};
-use xq_regions::{Item, Kind, MAX_NODES, has_text, may_follow, may_stand};
+use xq_trees::{Item, Kind, MAX_NODES, has_text, may_follow, may_stand};
 
 /// The most attributes that are copied below a root: the name of each is compared with those of all
 /// before it.

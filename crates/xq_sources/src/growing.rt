@@ -1,16 +1,16 @@
 //! Trees to which others can be added.
 ghost use Rattle.std.specs.Prelude.{◌≡◌, ◌++◌, ◌∷◌, ◌⊎◌, [], true, false, map, IfOk, IfSome, OnErr, IfNone, OnOk};
-ghost use Rattle.xq_regions.specs.Items.{item_view};
+ghost use Rattle.xq_trees.specs.Items.{item_view};
 ghost use Rattle.xq_sources.specs.Grafts.{lone, around_text, Grafts};
 
 use crate::lenders::RowLender;
 use xq_atoms::Want;
-use xq_packed_trees::PackedTree;
-use xq_regions::{Item, Kind};
+use xq_packed::PackedTree;
+use xq_trees::{Item, Kind};
 
 /// Trees that lend their rows, and to which a constructed one can be added: all that an evaluation
 /// needs of them.
-pub trait Growing: RowLender {
+pub trait TreeStore: RowLender {
     /// Adds the tree after the others. Where it is refused, they are as before. What is lent was
     /// lent before.
     fn plant(&mut self, tree: PackedTree) -> Result<(), Want>
@@ -47,7 +47,7 @@ pub trait Growing: RowLender {
     /// roots the items are, side by side. Says whether it did: only where the items are roots of
     /// constructed trees, and there is such a tree; it is judged where these meet, and not within
     /// them. Else, and where it is refused, the trees are as before. What is lent was lent before.
-    fn graft(&mut self, kind: Kind, name: &str, items: &[Item]) -> Result<bool, Want>
+    fn append_parent(&mut self, kind: Kind, name: &str, items: &[Item]) -> Result<bool, Want>
         ensures grown { IfOk result (λ did. did ≡ true → Grafts kind name.now
             (map item_view items.now) (Self.forest self.old) (Self.forest self.new)) }
         ensures left { IfOk result (λ did. did ≡ false
@@ -59,7 +59,7 @@ pub trait Growing: RowLender {
 
     /// Takes the last tree away, where it is a constructed one, and gives it up; none where there
     /// is no such tree, and they are as before. What is lent was lent before.
-    fn uproot(&mut self) -> Option<PackedTree>
+    fn take_last(&mut self) -> Option<PackedTree>
         ensures taken { IfSome result (λ tree.
             Self.forest self.old ≡ Self.forest self.new ++ tree ∷ []) }
         ensures kept { IfNone result (Self.forest self.new ≡ Self.forest self.old) }

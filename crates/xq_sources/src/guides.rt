@@ -1,6 +1,6 @@
 //! Where the parent of a node lies.
 ghost use Rattle.std.specs.Prelude.{ℕ, List, [], ◌≡◌, ◌<◌, true, IfSome};
-ghost use Rattle.xq_regions.specs.Rows.{Row};
+ghost use Rattle.xq_trees.specs.Rows.{Row};
 ghost use Rattle.xq_sources.specs.Lent.{unplaced};
 ghost use Rattle.xq_sources.specs.Parents.{AreParents, IsParentRow};
 

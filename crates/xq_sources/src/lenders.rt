@@ -1,9 +1,9 @@
 //! Lenders of rows: what each of them promises, and a lender over any source.
 ghost use Rattle.std.specs.Prelude.{◌≡◌, ◌↔◌, ◌∷◌, [], ℕ, List, length, map, IfSome, OnErr, OnOk};
-ghost use Rattle.xq_regions.specs.Tree.{IsTree};
-ghost use Rattle.xq_regions.specs.Rows.{Row, placed, placed_rows, row_at, rows};
+ghost use Rattle.xq_trees.specs.Tree.{IsTree};
+ghost use Rattle.xq_trees.specs.Rows.{Row, placed, placed_rows, row_at, rows};
 ghost use Rattle.xq_sources.specs.AttributeRows.{AreAttributeRows};
-ghost use Rattle.xq_found.specs.Values.{valued as valued_lem};
+ghost use Rattle.xq_packed.specs.Values.{valued as valued_lem};
 ghost use Rattle.xq_sources.specs.Names.{named as named_lem};
 ghost use Rattle.xq_sources.specs.Parents.{AreParents, IsParentRow};
 ghost use Rattle.xq_sources.specs.Sources.{tree_at, HasTree, HasNode, rows_between, after_row};
@@ -13,7 +13,7 @@ use crate::guides::no_parents;
 use crate::{LentRows, Meter, RowSource, TreeSource};
 use std::alloc::Global;
 use xq_atoms::Want;
-use xq_regions::NodeRow;
+use xq_trees::NodeRow;
 
 /// Trees whose rows are lent: one call makes them ready, the next lends them.
 ///

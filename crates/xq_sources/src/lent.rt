@@ -2,7 +2,7 @@
 ghost use Rattle.std.specs.Prelude.{ℕ, ◌≡◌, ◌^◌, ◌<◌, ◌≤◌, ◌++◌, ◌+◌, ◌∷◌, drop, length, map, slice_get, slice_range, take, IfOk, IfSome, IfNone, OnOk, IsTrue, ◌↔◌, []};
 ghost use Rattle.std.specs.List.{enumerate_from};
 ghost use Rattle.std.specs.Option.{option_map};
-ghost use Rattle.xq_regions.specs.Rows.{placed, row_at, row_of};
+ghost use Rattle.xq_trees.specs.Rows.{placed, row_at, row_of};
 ghost use Rattle.xq_packed.specs.Changes.{moved};
 ghost use Rattle.xq_sources.specs.Lent.{placed_lent, lent_at, unplaced, placed_between};
 
@@ -10,7 +10,7 @@ use std::alloc::Global;
 use std::marker::Model;
 use xq_atoms::Want;
 use xq_packed::{PackedRow, PackedRows};
-use xq_regions::{Kind, NodeRow};
+use xq_trees::{Kind, NodeRow};
 
 /// Where the name and the value of a row lie.
 #[derive(Drop)]
@@ -186,8 +186,8 @@ pub struct LentRows<'a> {
 impl<'a> Model for LentRows<'a> {
     ghost use Rattle.std.specs.Prelude.{ℕ, List};
     ghost use Rattle.std.specs.Coded.{coded×, coded_ℕ, coded_list};
-    ghost use Rattle.xq_regions.specs.Rows.{Row};
-    ghost use Rattle.xq_regions.specs.Codes.{row_code};
+    ghost use Rattle.xq_trees.specs.Rows.{Row};
+    ghost use Rattle.xq_trees.specs.Codes.{row_code};
 
     ghost Value = { List (ℕ × Row) };
 

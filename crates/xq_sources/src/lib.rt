@@ -20,13 +20,13 @@ mod values;
 
 pub use addresses::Addresses;
 pub use attributes::count_attributes;
-pub use fragments::Fragments;
-pub use growing::Growing;
+pub use fragments::ConstructedTrees;
+pub use growing::TreeStore;
 pub use guides::{Guide, no_parents, told_parent};
 pub use lenders::{Buffered, RowLender};
 pub use lent::{LentRow, LentRows};
 pub use meters::Meter;
-pub use names::{Names, find_named};
+pub use names::{NameIndex, find_named};
 pub use sources::{RowSource, TreeSource};
 pub use trees::Trees;
 pub use values::{Values, find_values};

@@ -9,14 +9,14 @@ use crate::{LentRow, LentRows};
 use std::alloc::Global;
 use std::collections::HashMap;
 use xq_atoms::Want;
-use xq_regions::Kind;
+use xq_trees::Kind;
 
 /// Of how many names of a tree places are kept at most.
 pub(crate) const MOST_NAMES: usize = 1_000;
 
 /// The places of the elements of a tree by their names, of names that were asked for: four bytes
 /// for each element with one of them.
-pub type Names = HashMap<String, Vec<u32>>;
+pub type NameIndex = HashMap<String, Vec<u32>>;
 
 /// Whether the row is that of an element with the name.
 fn is_named(row: &LentRow<'_>, name: &str) -> bool
@@ -40,7 +40,7 @@ fn places_named(alloc: Global, rows: &LentRows<'_>, name: &str) -> Result<Vec<u3
 }
 
 /// Keeps these places for the name.
-fn keep(alloc: Global, names: &mut Names, name: &str, places: Vec<u32>) -> Result<(), Want>
+fn keep(alloc: Global, names: &mut NameIndex, name: &str, places: Vec<u32>) -> Result<(), Want>
     ensures kept { OnOk result ((q : Text) → get_by_text names.new q
         ≡ (if text_eq q name.now then Some places else get_by_text names.old q)) }
     ensures same { OnErr result (IsUnchanged names.old names.new) }
@@ -53,7 +53,7 @@ fn keep(alloc: Global, names: &mut Names, name: &str, places: Vec<u32>) -> Resul
 /// Looks for the elements with the name among the rows, which are all of a tree's, and keeps their
 /// places where there are some: each later look finds them at once. Where memory is short, or many
 /// names are kept, no more is.
-pub fn find_named(alloc: Global, names: &mut Names, rows: &LentRows<'_>, name: &str)
+pub fn find_named(alloc: Global, names: &mut NameIndex, rows: &LentRows<'_>, name: &str)
     ensures { AreNames rows.now names.old → AreNames rows.now names.new }
 {
     if names.len() >= MOST_NAMES || names.contains_key(name) {

@@ -1,10 +1,10 @@
 //! Trees whose rows lie one after another in one list.
 ghost use Rattle.std.specs.Prelude.{◌≡◌, ◌≤◌, ◌++◌, ◌∷◌, [], map, Some, None, true, false, length, slice_get, IfNone, IfOk, IfSome, IsTrue, OnErr, OnOk};
-ghost use Rattle.xq_regions.specs.Rows.{placed_rows, rows};
-ghost use Rattle.xq_regions.specs.Tree.{IsTree, has_text as has_text_lem, is_legal as is_legal_lem};
+ghost use Rattle.xq_trees.specs.Rows.{placed_rows, rows};
+ghost use Rattle.xq_trees.specs.Tree.{IsTree, has_text as has_text_lem, is_legal as is_legal_lem};
 ghost use Rattle.xq_sources.specs.Grafts.{lone, around_text, rooted};
-ghost use Rattle.xq_regions.specs.Forest.{end};
-ghost use Rattle.xq_regions.specs.Items.{item_view};
+ghost use Rattle.xq_trees.specs.Forest.{end};
+ghost use Rattle.xq_trees.specs.Items.{item_view};
 ghost use Rattle.xq_sources.specs.private.Meeting.{IsGrafted};
 ghost use Rattle.xq_sources.specs.Sources.{tree_at, HasTree};
 ghost use Rattle.xq_sources.specs.private.Planted.{start_of as start_of_lem};
@@ -14,23 +14,22 @@ use crate::grafts::append_rooted;
 use std::alloc::Global;
 use std::marker::Model;
 use xq_atoms::Want;
-use xq_packed::PackedRows;
-use xq_packed_trees::PackedTree;
-use xq_regions::{Item, Kind, has_text, is_legal};
+use xq_packed::{PackedRows, PackedTree};
+use xq_trees::{Item, Kind, has_text, is_legal};
 
 /// Trees beside one another, the rows of one after those of another. Contracts see the trees.
 #[derive(Drop)]
-pub struct PlantedTrees {
+pub struct TreeArena {
     rows: PackedRows,
     /// Where the rows of each tree end.
     ends: Vec<usize>,
 }
 
-impl Model for PlantedTrees {
+impl Model for TreeArena {
     ghost use Rattle.std.specs.Prelude.{List};
     ghost use Rattle.std.specs.Coded.{coded_list};
-    ghost use Rattle.xq_regions.specs.Codes.{tree_code};
-    ghost use Rattle.xq_regions.specs.Tree.{Tree};
+    ghost use Rattle.xq_trees.specs.Codes.{tree_code};
+    ghost use Rattle.xq_trees.specs.Tree.{Tree};
     ghost use Rattle.xq_sources.specs.private.Planted.{trees_after, ArePlanted};
 
     ghost Value = { List Tree };
@@ -77,12 +76,12 @@ fn append_whole(list: &mut PackedRows, tree: PackedTree) -> Result<(), Want>
     Ok(())
 }
 
-impl PlantedTrees {
+impl TreeArena {
     /// No tree.
-    pub fn new(alloc: Global) -> PlantedTrees
+    pub fn new(alloc: Global) -> TreeArena
         ensures { result ≡ [] }
     {
-        PlantedTrees {
+        TreeArena {
             rows: PackedRows::new(alloc),
             ends: Vec::new(alloc),
         }
@@ -164,7 +163,7 @@ impl PlantedTrees {
 
     /// Adds a root without a value after the trees, and below it copies of the trees whose roots
     /// the items are, where these are numbered from a first number on, and says whether it did.
-    pub fn graft(
+    pub fn append_parent(
         &mut self,
         first: usize,
         kind: Kind,

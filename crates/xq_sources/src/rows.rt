@@ -1,13 +1,13 @@
 //! Copies of rows that are lent.
 ghost use Rattle.std.specs.Prelude.{◌≡◌, map, filter, IfOk};
-ghost use Rattle.xq_regions.specs.Rows.{placed};
+ghost use Rattle.xq_trees.specs.Rows.{placed};
 ghost use Rattle.xq_sources.specs.Lent.{placed_lent};
 ghost use Rattle.xq_sources.specs.Sources.{encloses as encloses_lem};
 
 use crate::{LentRow, LentRows};
 use std::alloc::Global;
 use xq_atoms::Want;
-use xq_regions::NodeRow;
+use xq_trees::NodeRow;
 
 /// The same rows, to keep.
 pub fn copy_rows(alloc: Global, rows: &LentRows<'_>) -> Result<Vec<NodeRow>, Want>

@@ -1,14 +1,14 @@
 //! Sources of rows: what each of them promises.
 ghost use Rattle.std.specs.Prelude.{◌≡◌, List, length, map, IfOk, OnOk};
-ghost use Rattle.xq_regions.specs.Tree.{Tree, IsTree};
-ghost use Rattle.xq_regions.specs.Rows.{placed, row_at, rows};
+ghost use Rattle.xq_trees.specs.Tree.{Tree, IsTree};
+ghost use Rattle.xq_trees.specs.Rows.{placed, row_at, rows};
 ghost use Rattle.xq_sources.specs.Meters.{Readings};
 ghost use Rattle.xq_sources.specs.Sources.{tree_at, HasTree, HasNode, rows_between, rows_enclosing, after_range, after_enclosing, after_row};
 
 use crate::Meter;
 use std::alloc::Global;
 use xq_atoms::Want;
-use xq_regions::NodeRow;
+use xq_trees::NodeRow;
 
 /// Trees that are read by their rows, and a meter of what was read.
 pub trait TreeSource {

@@ -3,16 +3,16 @@ ghost use Rattle.std.specs.Prelude.{◌≡◌, ◌+◌, ◌<◌, ◌^◌, ◌↔
 ghost use Rattle.xq_sources.specs.Meters.{no_readings};
 ghost use Rattle.xq_sources.specs.Sums.{sum};
 
-use crate::Growing;
-use crate::fragments::Fragments;
+use crate::TreeStore;
+use crate::fragments::ConstructedTrees;
 use crate::lenders::RowLender;
 use crate::lent::LentRows;
 use crate::meters::Meter;
 use crate::sources::{RowSource, TreeSource};
 use std::alloc::Global;
 use xq_atoms::Want;
-use xq_packed_trees::PackedTree;
-use xq_regions::{Item, Kind, NodeRow};
+use xq_packed::PackedTree;
+use xq_trees::{Item, Kind, NodeRow};
 
 /// The trees of a source, and after them those that were constructed. The meter shows the sums of
 /// both, each standing still at `u64::MAX`; they are clean while the source is.
@@ -20,11 +20,11 @@ use xq_regions::{Item, Kind, NodeRow};
 pub struct Trees<S: TreeSource + Drop> {
     source: S,
     stored: usize,
-    constructed: Fragments,
+    constructed: ConstructedTrees,
     /// Whether the last fetch was from the source.
     is_stored: bool,
     ghost counted: { stored ≡ length (S.forest source) },
-    ghost fits: { stored + length (⟦<Fragments as TreeSource>⟧.forest constructed) < 2 ^ 64 },
+    ghost fits: { stored + length (⟦<ConstructedTrees as TreeSource>⟧.forest constructed) < 2 ^ 64 },
 }
 
 impl<S: TreeSource + Drop> Trees<S> {
@@ -39,7 +39,7 @@ impl<S: TreeSource + Drop> Trees<S> {
         Trees {
             source,
             stored,
-            constructed: Fragments::new(alloc),
+            constructed: ConstructedTrees::new(alloc),
             is_stored: true,
         }
     }
@@ -56,9 +56,9 @@ impl<S: TreeSource + Drop> Trees<S> {
 }
 
 impl<S: TreeSource + Drop> TreeSource for Trees<S> {
-    ghost forest = { λ t. S.forest t.source ++ ⟦<Fragments as TreeSource>⟧.forest t.constructed };
+    ghost forest = { λ t. S.forest t.source ++ ⟦<ConstructedTrees as TreeSource>⟧.forest t.constructed };
 
-    ghost meter = { λ t. sum (S.meter t.source) (⟦<Fragments as TreeSource>⟧.meter t.constructed) };
+    ghost meter = { λ t. sum (S.meter t.source) (⟦<ConstructedTrees as TreeSource>⟧.meter t.constructed) };
 
     ghost is_clean = { λ t. S.is_clean t.source };
 
@@ -73,7 +73,7 @@ impl<S: TreeSource + Drop> TreeSource for Trees<S> {
     }
 }
 
-impl<S: RowLender + Drop> Growing for Trees<S> {
+impl<S: RowLender + Drop> TreeStore for Trees<S> {
     fn plant(&mut self, tree: PackedTree) -> Result<(), Want> {
         if self.trees() == usize::MAX {
             return Err(Want::Memory);
@@ -95,21 +95,22 @@ impl<S: RowLender + Drop> Growing for Trees<S> {
         self.constructed.push_around(name, value)
     }
 
-    fn graft(&mut self, kind: Kind, name: &str, items: &[Item]) -> Result<bool, Want> {
+    fn append_parent(&mut self, kind: Kind, name: &str, items: &[Item]) -> Result<bool, Want> {
         if self.trees() == usize::MAX {
             return Err(Want::Memory);
         }
-        self.constructed.graft(self.stored, kind, name, items)
+        self.constructed
+            .append_parent(self.stored, kind, name, items)
     }
 
-    fn uproot(&mut self) -> Option<PackedTree> {
+    fn take_last(&mut self) -> Option<PackedTree> {
         self.constructed.pop()
     }
 }
 
 impl<S: RowLender + Drop> RowLender for Trees<S> {
     ghost lent = { λ t. if t.is_stored then S.lent t.source
-        else ⟦<Fragments as RowLender>⟧.lent t.constructed };
+        else ⟦<ConstructedTrees as RowLender>⟧.lent t.constructed };
 
     fn fetch(&mut self, alloc: Global, tree: usize, low: u32, high: u32) -> Result<(), Want> {
         self.is_stored = tree < self.stored;

@@ -8,8 +8,7 @@ use crate::names::MOST_NAMES;
 use std::alloc::Global;
 use std::collections::HashMap;
 use xq_atoms::Want;
-use xq_found::ValuePlaces;
-use xq_packed::PackedRows;
+use xq_packed::{PackedRows, ValuePlaces};
 
 /// The places of the attributes of a tree by their names, in the order of their values, of names
 /// that were asked for: four bytes for each attribute with one of them.

@@ -6,7 +6,7 @@ use sqlite_disk::{Crash, Disk, Fuse, Memory};
 use std::alloc::{AllocError, Global};
 use std::io;
 use xq_atoms::Want;
-use xq_rows::Store;
+use xq_store::Store;
 
 /// A file that answers so many calls, and fails each one after.
 pub type Stopping = Fuse<Memory>;

@@ -2,7 +2,7 @@
 //! copies of rows, buffers that lend them, trees that are converted, and streams whose columns are
 //! given at once. What a request reaches runs through the program (tools/test_rows.py). They stand
 //! in a crate of their own, since a crate with tests is proved twice, and over trees in memory
-//! alone; `xq_rows_tests` has those over stores.
+//! alone; `xq_store_tests` has those over stores.
 #![tactic(auto)]
 
 #[cfg(test)]

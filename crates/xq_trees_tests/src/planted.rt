@@ -3,10 +3,10 @@
 use crate::asserts::{holds, none_is_wrong};
 use std::alloc::Global;
 use xq_atoms::Want;
-use xq_packed_trees::PackedTree;
-use xq_regions::{Item, Items, Kind, Node};
+use xq_packed::PackedTree;
 use xq_samples::documents::{Row, are_rows, held, tree_of};
-use xq_sources::{Buffered, Fragments, Growing, LentRows, RowLender, RowSource, Trees};
+use xq_sources::{Buffered, ConstructedTrees, LentRows, RowLender, RowSource, TreeStore, Trees};
+use xq_trees::{Item, Items, Kind, Node};
 
 /// An element of the source, with a text.
 const STORED: [Row; 2] = [
@@ -123,12 +123,12 @@ const AROUND: [Row; 2] = [
 ];
 
 /// A source with one tree.
-fn stored(alloc: Global) -> Result<Fragments, Want> {
+fn stored(alloc: Global) -> Result<ConstructedTrees, Want> {
     held(alloc, tree_of(alloc, &STORED)?)
 }
 
 /// Adds a constructed tree.
-fn construct<T: Growing>(alloc: Global, trees: &mut T) -> Result<(), Want> {
+fn construct<T: TreeStore>(alloc: Global, trees: &mut T) -> Result<(), Want> {
     let tree = tree_of(alloc, &CONSTRUCTED)?;
     trees.plant(PackedTree::of(alloc, &tree)?)
 }
@@ -146,17 +146,21 @@ fn roots(alloc: Global, trees: &[usize]) -> Result<Items, Want> {
 }
 
 /// Builds a tree where it is kept, and tells whether that was done.
-fn is_planted<T: Growing>(alloc: Global, trees: &mut T, plant: Plant) -> Result<bool, Want> {
+fn is_planted<T: TreeStore>(alloc: Global, trees: &mut T, plant: Plant) -> Result<bool, Want> {
     match plant {
         Plant::Lone(kind, name, value) => trees.plant_lone(kind, name, value),
         Plant::Around(name, value) => trees.plant_around(name, value),
-        Plant::Graft(kind, name, numbers) => trees.graft(kind, name, &roots(alloc, numbers)?),
+        Plant::Graft(kind, name, numbers) => trees.append_parent(
+            kind,
+            name,
+            &roots(alloc, numbers)?,
+        ),
     }
 }
 
 /// Takes the last tree away, and tells whether it has these rows.
-fn is_uprooted<T: Growing>(trees: &mut T, wanted: Option<&[Row]>) -> bool {
-    let Some(tree) = trees.uproot() else {
+fn is_uprooted<T: TreeStore>(trees: &mut T, wanted: Option<&[Row]>) -> bool {
+    let Some(tree) = trees.take_last() else {
         return wanted.is_none();
     };
     match wanted {
@@ -185,7 +189,7 @@ fn refuses<T: RowSource>(alloc: Global, trees: &mut T, tree: usize) -> bool {
 }
 
 /// Does this, and tells whether what is found is what it says.
-fn is_right<T: Growing + RowSource>(
+fn is_right<T: TreeStore + RowSource>(
     alloc: Global,
     trees: &mut T,
     look: Look,
@@ -207,7 +211,7 @@ fn is_right<T: Growing + RowSource>(
 }
 
 /// The place of the first of these that is not as it says.
-fn wrong_look<T: Growing + RowSource>(
+fn wrong_look<T: TreeStore + RowSource>(
     alloc: Global,
     trees: &mut T,
     looks: &[Look],
@@ -248,7 +252,7 @@ fn lends<L: RowLender>(
 }
 
 /// Whether trees of both kinds are lent, and counted.
-fn lends_both<T: Growing>(alloc: Global, trees: &mut T) -> Result<bool, Want> {
+fn lends_both<T: TreeStore>(alloc: Global, trees: &mut T) -> Result<bool, Want> {
     construct(alloc, trees)?;
     let are_lent = lends(alloc, trees, 1, &CONSTRUCTED)? && lends(alloc, trees, 0, &STORED)?;
     let is_refused = matches!(trees.fetch(alloc, 2, 0, 0), Err(Want::Store));
@@ -258,7 +262,7 @@ fn lends_both<T: Growing>(alloc: Global, trees: &mut T) -> Result<bool, Want> {
 
 /// Trees over a source without places tell none, of the source's trees or of those that are
 /// constructed.
-fn tells_none<T: Growing>(alloc: Global, trees: &mut T) -> bool {
+fn tells_none<T: TreeStore>(alloc: Global, trees: &mut T) -> bool {
     for tree in 0..3 {
         trees.find_values(alloc, tree, "id");
         if trees.valued(tree, "id", "x").is_some() {

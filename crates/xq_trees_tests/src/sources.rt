@@ -1,4 +1,4 @@
-//! Fragments as a source that gives copies of rows, and a buffer over them: what they give, lend and
+//! ConstructedTrees as a source that gives copies of rows, and a buffer over them: what they give, lend and
 //! count, and steps over the buffer; and trees that are packed, unpacked and made of levels.
 
 use crate::asserts::{holds, none_is_wrong};
@@ -6,14 +6,14 @@ use std::alloc::Global;
 use xq_atoms::Want;
 use xq_axes::axis;
 use xq_meaning::Test;
-use xq_packed_trees::PackedTree;
-use xq_regions::{Axis, Fragment, Node};
+use xq_packed::PackedTree;
 use xq_samples::documents::{
     LIBRARY, ROWS, are_at, are_rows, great_library, held, library, register,
 };
 use xq_samples::readings::{both, wrong_above, wrong_gift, wrong_loan};
 use xq_samples::scans::{REGISTER_SCANS, SCANS, reads_twice_in_two_steps, wrong_scan};
-use xq_sources::{Buffered, Fragments, LentRows, RowLender, RowSource, TreeSource};
+use xq_sources::{Buffered, ConstructedTrees, LentRows, RowLender, RowSource, TreeSource};
+use xq_trees::{Axis, Node, RowTree};
 
 /// The rows of two documents are given, lent and counted, by fragments and by a buffer over them.
 #[test]
@@ -62,7 +62,7 @@ fn told<L: RowLender>(lender: &L, tree: usize, node: u32) -> Option<u32> {
 }
 
 /// The parent that is told of each node is the last of the nodes above it, and the root has none.
-fn are_told(alloc: Global, fragments: &mut Fragments, count: u32) -> Result<bool, Want> {
+fn are_told(alloc: Global, fragments: &mut ConstructedTrees, count: u32) -> Result<bool, Want> {
     for node in 0..count {
         if told(fragments, 0, node) != last_above(alloc, fragments, node)? {
             return Ok(false);
@@ -72,7 +72,7 @@ fn are_told(alloc: Global, fragments: &mut Fragments, count: u32) -> Result<bool
 }
 
 /// Whether parents are told so of the one tree, of so many rows, from the first look at a row on.
-fn tells_parents(alloc: Global, tree: Fragment, count: u32) -> Result<bool, Want> {
+fn tells_parents(alloc: Global, tree: RowTree, count: u32) -> Result<bool, Want> {
     let mut fragments = held(alloc, tree)?;
     fragments.fetch_row(alloc, 0, 0)?;
     are_told(alloc, &mut fragments, count)
@@ -94,7 +94,7 @@ fn parents_are_told(rt: HostRuntime) -> Result<(), Want> {
 fn stays_the_same(alloc: Global) -> Result<bool, Want> {
     let packed = PackedTree::of(alloc, &library(alloc)?)?;
     let unpacked = packed.to_fragment(alloc)?;
-    let Some(tree) = Fragment::from_levels(unpacked.into_rows()) else {
+    let Some(tree) = RowTree::from_levels(unpacked.into_rows()) else {
         return Ok(false);
     };
     Ok(are_rows(&LentRows::new(tree.rows()), &LIBRARY))

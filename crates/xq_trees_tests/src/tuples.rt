@@ -5,7 +5,7 @@ use crate::asserts::holds;
 use std::alloc::Global;
 use std::process::Abort;
 use xq_atoms::{Atom, Fault};
-use xq_regions::{Item, Items};
+use xq_trees::{Item, Items};
 use xq_tuples::{Key, OrderSpec, Tuples};
 
 const DESCENDING: OrderSpec = OrderSpec {

@@ -9,8 +9,8 @@ use Rattle.xq_atoms.specs.Atom.{Atomic}
 use Rattle.xq_atoms.specs.Compare.{Key}
 use Rattle.xq_atoms.specs.declared.atoms.Atom.{Atom}
 use Rattle.xq_atoms.specs.declared.atoms.GroupKey.{GroupKey}
-use Rattle.xq_regions.specs.Items.{ItemView, Value}
-use Rattle.xq_regions.specs.Tuples.{Tuple, grouped_tuple, groups, same_keys, sorted}
+use Rattle.xq_trees.specs.Items.{ItemView, Value}
+use Rattle.xq_trees.specs.Tuples.{Tuple, grouped_tuple, groups, same_keys, sorted}
 use Rattle.xq_tuples.specs.declared.rows.OrderSpec.{OrderSpec}
 use Rattle.xq_tuples.specs.private.Groups.{group_of}
 use Rattle.xq_tuples.specs.private.Ranks.{by_keys, by_keys_at, keys_at, with_keys}

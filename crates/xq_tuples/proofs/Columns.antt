@@ -6,7 +6,7 @@ use Rattle.std.proofs.lemmas.List.{append_assoc, append-nil, length-map, get_or-
 use Rattle.std.proofs.lemmas.List.FromFn.{length-range_with_len}
 use Rattle.std.proofs.lemmas.List.Elements.{All-nil, All-cons, All-head, All-tail}
 use Rattle.xq_atoms.specs.declared.atoms.Atom.{Atom}
-use Rattle.xq_regions.specs.Tuples.{extended, key_rows}
+use Rattle.xq_trees.specs.Tuples.{extended, key_rows}
 use Rattle.xq_tuples.specs.declared.rows.Key.{Key}
 use Rattle.xq_tuples.specs.Keys.{atomics_of, column_of, values_in, row_of, by_specification, by_tuple}
 use Rattle.xq_tuples.specs.private.Columns.{filled, after_tuples}

@@ -10,7 +10,7 @@ use Rattle.xq_atoms.specs.Compare.{Key, Nothing, Number, Characters, Truth, of_o
 use Rattle.xq_tuples.specs.declared.rows.OrderSpec.{OrderSpec}
 use Rattle.xq_tuples.specs.Orders.{rule_of}
 use Rattle.xq_tuples.proofs.Lists.{list_all-map}
-use Rattle.xq_regions.specs.Tuples.{OrderRule, is_nothing, rule_cmp, first_key, later_keys, keys_cmp, are_of_one_kind}
+use Rattle.xq_trees.specs.Tuples.{OrderRule, is_nothing, rule_cmp, first_key, later_keys, keys_cmp, are_of_one_kind}
 
 are_of_one_kind-empty : (k : Key) (ks : List Key) → is_nothing k ≡ true → are_of_one_kind (k ∷ ks) ≡ are_of_one_kind ks
 are_of_one_kind-empty Nothing ks e = refl

@@ -2,8 +2,8 @@
 use Rattle.std.proofs.Common.{◌≡◌, ℕ, ◌<◌, List, [], ◌∷◌, ◌++◌, length, get_or, refl, ap, sym, ◌∙◌}
 use Rattle.std.specs.List.{AllZip}
 use Rattle.std.proofs.lemmas.List.{append_assoc, get_or-map, map_push}
-use Rattle.xq_regions.specs.Items.{ItemView}
-use Rattle.xq_regions.specs.Tuples.{Tuple, value_at}
+use Rattle.xq_trees.specs.Items.{ItemView}
+use Rattle.xq_trees.specs.Tuples.{Tuple, value_at}
 use Rattle.xq_tuples.specs.Views.{slot_items, values_of}
 use Rattle.xq_tuples.specs.declared.slots.SlotValue.{SlotValue}
 

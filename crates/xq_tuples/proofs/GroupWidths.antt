@@ -6,8 +6,8 @@ use Rattle.std.specs.Cmp.{IsEquivalence}
 use Rattle.std.proofs.lemmas.List.{length-map}
 use Rattle.std.proofs.lemmas.List.FromFn.{length-range_with_len}
 use Rattle.xq_atoms.specs.Atom.{Atomic}
-use Rattle.xq_regions.specs.Items.{ItemView, Value}
-use Rattle.xq_regions.specs.Tuples.{Tuple, Keyed as KeyedTuple, firsts, groups, grouped_tuple, grouped_value, same_keys, slot_key}
+use Rattle.xq_trees.specs.Items.{ItemView, Value}
+use Rattle.xq_trees.specs.Tuples.{Tuple, Keyed as KeyedTuple, firsts, groups, grouped_tuple, grouped_value, same_keys, slot_key}
 use Rattle.xq_tuples.proofs.Placing.{laws}
 use Rattle.xq_tuples.proofs.Sorting.{each_weaker}
 use Rattle.xq_tuples.proofs.Laid.{AreWide}

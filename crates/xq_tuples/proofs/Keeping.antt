@@ -3,7 +3,7 @@ use Rattle.std.proofs.Common.{◌≡◌, ℕ, zero, suc, ◌+◌, ◌-◌, ◌*�
 use Rattle.std.specs.List.{SwappedAt, AllWithin, filter}
 use Rattle.std.proofs.lemmas.List.{take_more, take_all, take-set-le, drop-set-lt, drop_more, length-set, get_or_default, append-nil, length-append, length-drop, length-take-le, length-replicate, take-append-drop, take_at, drop_at, get_or_append_left, get_or-append_right, get_or-replicate}
 use Rattle.std.proofs.lemmas.List.Elements.{filter_more}
-use Rattle.xq_regions.specs.Tuples.{satisfying}
+use Rattle.xq_trees.specs.Tuples.{satisfying}
 use Rattle.xq_tuples.specs.Keys.{by_tuple}
 use Rattle.xq_tuples.specs.private.Laid.{KeepsInPlace, spread}
 use Rattle.xq_tuples.proofs.Lists.{kept-push}

@@ -8,8 +8,8 @@ use Rattle.std.proofs.lemmas.Nat.{row_fits}
 use Rattle.std.proofs.lemmas.List.Concat.{flat_map-append}
 use Rattle.std.proofs.lemmas.List.FromFn.{length-enumerate_from, get_or-enumerate_from}
 use Rattle.xq_atoms.specs.Atom.{Integer}
-use Rattle.xq_regions.specs.Items.{ItemView, Value}
-use Rattle.xq_regions.specs.Tuples.{Tuple, bound, expanded, empty_values, item_values, numbered, with_each, with_each_or_empty}
+use Rattle.xq_trees.specs.Items.{ItemView, Value}
+use Rattle.xq_trees.specs.Tuples.{Tuple, bound, expanded, empty_values, item_values, numbered, with_each, with_each_or_empty}
 use Rattle.xq_tuples.specs.Keys.{by_tuple}
 use Rattle.xq_tuples.specs.private.Laid.{laid, slots_bound}
 use Rattle.xq_tuples.proofs.Lists.{enumerate_push}

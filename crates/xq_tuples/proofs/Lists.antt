@@ -5,7 +5,7 @@ use Rattle.std.proofs.lemmas.List.{map-id, map-append}
 use Rattle.std.proofs.lemmas.List.Elements.{filter-append}
 use Rattle.std.proofs.lemmas.List.FromFn.{map-range_with_len_more}
 pub use mathlib.Core.List.{map-map}
-use Rattle.xq_regions.specs.Tuples.{satisfying}
+use Rattle.xq_trees.specs.Tuples.{satisfying}
 
 pub list_all-map : {A B : Type 0} (p : B → Bool) (f : A → B) (xs : List A) → list_all p (map f xs) ≡ list_all (λ x. p (f x)) xs
 list_all-map p f [] = refl

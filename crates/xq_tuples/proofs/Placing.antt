@@ -11,11 +11,11 @@ use Rattle.xq_atoms.specs.declared.atoms.GroupKey.{GroupKey}
 use Rattle.xq_atoms.specs.Compare.{Key, key_of, key_eq}
 use Rattle.xq_atoms.specs.Derived.{group_key_eq}
 use Rattle.xq_atoms.proofs.Keys.{group_key_eq-is}
-use Rattle.xq_regions.specs.Tuples.{Tuple, Keyed as KeyedTuple, comparison_keys, same_keys, firsts, groups}
-use Rattle.xq_regions.specs.Items.{ItemView}
+use Rattle.xq_trees.specs.Tuples.{Tuple, Keyed as KeyedTuple, comparison_keys, same_keys, firsts, groups}
+use Rattle.xq_trees.specs.Items.{ItemView}
 use Rattle.xq_tuples.specs.private.KeyRows.{keys_at}
 use Rattle.xq_tuples.specs.private.Groups.{Gathers, keyed_of, group_of, compared_of}
-use Rattle.xq_regions.proofs.Grouping.{list_any-map, position_or_len-map, firsts-push, groups-push_new, groups-push_old}
+use Rattle.xq_trees.proofs.Grouping.{list_any-map, position_or_len-map, firsts-push, groups-push_new, groups-push_old}
 use Rattle.xq_atoms.proofs.KeyOrder.{key_eq_equiv}
 
 -- the test of the set of keys

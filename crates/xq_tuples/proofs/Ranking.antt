@@ -7,7 +7,7 @@ use Rattle.std.specs.declared.cmp.Ordering.{Ordering}
 use Rattle.std.specs.Ordering.{is_lt, int_cmp, ordering_then}
 use Rattle.xq_atoms.specs.Compare.{Key, Nothing, Number}
 use Rattle.xq_atoms.specs.declared.atoms.GroupKey.{GroupKey}
-use Rattle.xq_regions.specs.Tuples.{rule_cmp, inserted, sorted, keys_cmp}
+use Rattle.xq_trees.specs.Tuples.{rule_cmp, inserted, sorted, keys_cmp}
 use Rattle.xq_tuples.specs.Orders.{rule_of}
 use Rattle.xq_tuples.specs.declared.rows.OrderSpec.{OrderSpec}
 use Rattle.xq_tuples.specs.declared.rows.Ranked.{Ranked}

@@ -4,7 +4,7 @@ use Rattle.std.specs.Prelude.{if◌then◌else◌}
 use Rattle.std.specs.declared.cmp.Ordering.{Ordering}
 use Rattle.std.specs.declared.cmp.Ordering.TheVariants.{Equal}
 use Rattle.std.specs.Cmp.{IsTotalOrder, on_total, back_total, then_total, bool_cmp_total}
-use Rattle.xq_regions.specs.Tuples.{OrderRule, is_nothing, placed_cmp, rule_cmp, first_key, later_keys, keys_cmp}
+use Rattle.xq_trees.specs.Tuples.{OrderRule, is_nothing, placed_cmp, rule_cmp, first_key, later_keys, keys_cmp}
 use Rattle.xq_atoms.proofs.KeyOrder.{key_cmp_total}
 
 placed_total : (greatest : Bool) → IsTotalOrder (placed_cmp greatest)

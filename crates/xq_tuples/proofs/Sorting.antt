@@ -7,7 +7,7 @@ use Rattle.std.specs.List.{AllByRecursion as Each, filter}
 use Rattle.std.specs.List.Sorted.{IsSortedBy, IsStableBy, ties}
 use Rattle.std.proofs.lemmas.List.Sorted.{ranks_by, sorted_far}
 use Rattle.std.proofs.lemmas.Bool.{false≢true}
-use Rattle.xq_regions.specs.Tuples.{inserted, sorted}
+use Rattle.xq_trees.specs.Tuples.{inserted, sorted}
 
 -- from what holds at each place
 each_from : {X : Type 0} (P : X → Type 0) (xs : List X) → ((k : ℕ) (d : X) → k < length xs → P (get_or xs k d)) → Each P xs

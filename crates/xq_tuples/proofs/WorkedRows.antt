@@ -2,8 +2,8 @@
 use Rattle.std.specs.Prelude.{◌≡◌, refl, ℕ, ◌*◌, List, [], ◌∷◌, map, pos, true, false, Ok, Err, codes}
 use Rattle.xq_atoms.specs.declared.refusals.Code.TheVariants.{XPTY0004}
 use Rattle.xq_atoms.specs.Atom.{Atomic, Integer, Decimal, String, Untyped}
-use Rattle.xq_regions.specs.Tuples.{Tuple, OrderRule, value_at, bound, satisfying, expanded, numbered, grouped, ordered}
-use Rattle.xq_regions.specs.Items.{ItemView, Value}
+use Rattle.xq_trees.specs.Tuples.{Tuple, OrderRule, value_at, bound, satisfying, expanded, numbered, grouped, ordered}
+use Rattle.xq_trees.specs.Items.{ItemView, Value}
 
 abbrev int : ℕ → Atomic
 int n = Integer (pos n)

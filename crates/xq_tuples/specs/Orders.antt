@@ -1,5 +1,5 @@
 -- What contracts see of the specifications of an order.
-use Rattle.xq_regions.specs.Tuples.{OrderRule}
+use Rattle.xq_trees.specs.Tuples.{OrderRule}
 use Rattle.xq_tuples.specs.declared.rows.OrderSpec.{OrderSpec}
 
 -- how a specification of the program orders

@@ -1,7 +1,7 @@
 -- What contracts see of the program's tuples.
 use Rattle.std.specs.Prelude.{List, [], ◌∷◌, map}
-use Rattle.xq_regions.specs.Items.{ItemView, item_view, item_views}
-use Rattle.xq_regions.specs.Tuples.{Tuple}
+use Rattle.xq_trees.specs.Items.{ItemView, item_view, item_views}
+use Rattle.xq_trees.specs.Tuples.{Tuple}
 use Rattle.xq_tuples.specs.declared.slots.SlotValue.{SlotValue}
 use Rattle.xq_tuples.specs.declared.slots.SlotValue.TheVariants.{Lone, Shared}
 

@@ -2,8 +2,8 @@
 ghost use Rattle.std.specs.Prelude.{◌≡◌, List, [], ◌∷◌, ◌++◌, length, map, vec_len, slice_get, slice_index_or, IfOk, IfErr, OnOk};
 ghost use Rattle.std.specs.Option.{option_map, option_copied};
 ghost use Rattle.std.specs.List.{flat_map};
-ghost use Rattle.xq_regions.specs.Tuples.{Tuple, groups, same_keys, slot_key, key_items, grouped_tuple, value_at};
-ghost use Rattle.xq_regions.specs.Items.{ItemView, Value as AtomView, item_views};
+ghost use Rattle.xq_trees.specs.Tuples.{Tuple, groups, same_keys, slot_key, key_items, grouped_tuple, value_at};
+ghost use Rattle.xq_trees.specs.Items.{ItemView, Value as AtomView, item_views};
 ghost use Rattle.xq_tuples.specs.Views.{values_of};
 ghost use Rattle.xq_tuples.specs.private.KeyRows.{key_view, keys_at};
 ghost use Rattle.xq_tuples.specs.private.Groups.{Gathers, keyed_of, group_of, all_keyed};
@@ -15,7 +15,7 @@ use crate::values::push_copies;
 use indexmap::IndexSet;
 use std::alloc::Global;
 use xq_atoms::{Atom, GroupKey, Want};
-use xq_regions::{Item, Items};
+use xq_trees::{Item, Items};
 
 /// Puts the number of a tuple into the group of its keys, which is a new one where no tuple before
 /// it has them.

@@ -4,7 +4,7 @@ ghost use Rattle.std.specs.List.{list_all};
 ghost use Rattle.std.specs.Option.{option_copied};
 ghost use Rattle.xq_atoms.specs.Atom.{atomic_of};
 ghost use Rattle.xq_atoms.specs.Compare.{key_of};
-ghost use Rattle.xq_regions.specs.Tuples.{is_key, as_string, key_value, are_keys, comparison_key, comparison_keys, sort_keys};
+ghost use Rattle.xq_trees.specs.Tuples.{is_key, as_string, key_value, are_keys, comparison_key, comparison_keys, sort_keys};
 ghost use Rattle.xq_tuples.specs.Keys.{atomics_of, column_of, columns_of, values_in, row_of, rows_in, by_specification, by_tuple};
 ghost use Rattle.xq_tuples.specs.private.KeyRows.{key_view, keys_of, keys_at};
 ghost use Rattle.xq_tuples.specs.private.Columns.{left_of, filled};

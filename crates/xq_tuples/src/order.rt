@@ -2,7 +2,7 @@
 ghost use Rattle.std.specs.Prelude.{◌≡◌, ◌||◌, map, slice_index_or, true, false, IfOk, IfErr, IfSome, OnOk};
 ghost use Rattle.std.specs.List.{list_all, enumerate_from, range_with_len};
 ghost use Rattle.xq_atoms.specs.Compare.{Nothing, Number, key_of, of_one_kind};
-ghost use Rattle.xq_regions.specs.Tuples.{is_nothing, placed_cmp, rule_cmp, keys_cmp, are_of_one_kind, sort_keys, can_order, sorted};
+ghost use Rattle.xq_trees.specs.Tuples.{is_nothing, placed_cmp, rule_cmp, keys_cmp, are_of_one_kind, sort_keys, can_order, sorted};
 ghost use Rattle.xq_tuples.specs.Keys.{row_of, rows_in};
 ghost use Rattle.xq_tuples.specs.private.Groups.{compared_of};
 ghost use Rattle.xq_tuples.specs.Orders.{rule_of};

@@ -1,14 +1,14 @@
 //! The value of a slot, which tuples share.
 ghost use Rattle.std.specs.Prelude.{◌≡◌, ◌∷◌, [], map, length, true, IfOk, IfErr};
 ghost use Rattle.xq_atoms.specs.Atom.{atomic_of};
-ghost use Rattle.xq_regions.specs.Items.{item_view, item_views};
+ghost use Rattle.xq_trees.specs.Items.{item_view, item_views};
 ghost use Rattle.xq_tuples.specs.Views.{slot_items};
 
 use std::alloc::{AllocError, Global};
 use std::rc::Rc;
 use std::slice;
 use xq_atoms::{Atom, Want};
-use xq_regions::{Item, Items};
+use xq_trees::{Item, Items};
 
 /// The value of a slot. Tuples share the values that they have in common, so that a tuple is copied
 /// without a copy of a list. One item that has no text lies in place and takes no allocation, as

@@ -1,12 +1,12 @@
 //! The stream of tuples, and the clauses that make one stream of another.
 ghost use Rattle.std.specs.Prelude.{◌≡◌, ◌*◌, ◌<◌, ◌^◌, [], ◌∷◌, length, map, slice_index_or, All, IsTrue, ◌↔◌, IfOk, IfErr, Ok, false, true};
 ghost use Rattle.std.specs.List.{flat_map};
-ghost use Rattle.xq_regions.specs.Tuples.{bound, expanded, grouped, numbered, satisfying, ordered, value_at};
+ghost use Rattle.xq_trees.specs.Tuples.{bound, expanded, grouped, numbered, satisfying, ordered, value_at};
 ghost use Rattle.xq_tuples.specs.Keys.{columns_of, row_of, rows_in, by_specification, by_tuple};
 ghost use Rattle.xq_atoms.specs.Answers.{IsRefusal};
 ghost use Rattle.xq_tuples.specs.Orders.{rule_of};
 ghost use Rattle.xq_tuples.specs.Views.{values_of};
-ghost use Rattle.xq_regions.specs.Items.{Value as AtomView, item_view, item_views};
+ghost use Rattle.xq_trees.specs.Items.{Value as AtomView, item_view, item_views};
 
 use crate::groups::{gather, joined};
 use crate::keys::{dealt, key_columns, key_lists, turned};
@@ -19,7 +19,7 @@ use crate::values::{
 use std::alloc::Global;
 use std::marker::Model;
 use xq_atoms::{Atom, Fault, Want};
-use xq_regions::{Item, Items};
+use xq_trees::{Item, Items};
 
 /// A stream of tuples, which have equally many slots. Contracts see the list of tuples, each as
 /// the list of its values.
@@ -36,7 +36,7 @@ pub struct Tuples {
 
 impl Model for Tuples {
     ghost use Rattle.std.specs.Prelude.{List, length};
-    ghost use Rattle.xq_regions.specs.Items.{ItemView};
+    ghost use Rattle.xq_trees.specs.Items.{ItemView};
     ghost use Rattle.xq_tuples.specs.Keys.{by_tuple};
     ghost use Rattle.xq_tuples.specs.Views.{values_of};
     ghost use Rattle.xq_tuples.specs.private.Laid.{AreLaid};

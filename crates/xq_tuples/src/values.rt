@@ -2,15 +2,15 @@
 ghost use Rattle.std.specs.Prelude.{◌≡◌, ◌+◌, ◌<◌, ◌≤◌, ◌^◌, List, [], ◌∷◌, ◌++◌, map, length, pos, Bool, true, IfOk, IfErr, OnOk};
 ghost use Rattle.std.specs.List.{AllWithin};
 ghost use Rattle.xq_atoms.specs.Atom.{Integer};
-ghost use Rattle.xq_regions.specs.Tuples.{empty_values, item_values, with_each, with_each_or_empty};
-ghost use Rattle.xq_regions.specs.Items.{Value as AtomView, item_view, item_views};
+ghost use Rattle.xq_trees.specs.Tuples.{empty_values, item_values, with_each, with_each_or_empty};
+ghost use Rattle.xq_trees.specs.Items.{Value as AtomView, item_view, item_views};
 ghost use Rattle.xq_tuples.specs.Views.{slot_items, values_of};
 ghost use Rattle.xq_tuples.specs.private.Laid.{KeepsInPlace, laid, slots_bound as slots_bound_lem};
 
 use crate::slots::SlotValue;
 use std::alloc::Global;
 use xq_atoms::{Atom, Want};
-use xq_regions::{Item, Items};
+use xq_trees::{Item, Items};
 
 /// Adds the same items to `copies`.
 pub fn push_copies(alloc: Global, copies: &mut Items, items: &[Item]) -> Result<(), Want>

@@ -1,10 +1,10 @@
 -- How many attributes nodes have, as a source tells it at once.
 use Rattle.std.specs.Prelude.{ℕ, ◌<◌, ◌≤◌, ◌≡◌, Bool, true, false, None, List, length, slice_index, slice_index_or}
-use Rattle.xq_regions.specs.Forest.{count}
-use Rattle.xq_regions.specs.Tree.{Tree, IsTree, nodes}
-use Rattle.xq_regions.specs.Rows.{rows}
-use Rattle.xq_regions.specs.RegionTests.{plain_row}
-use Rattle.xq_regions.specs.declared.Axis.TheVariants as axis
+use Rattle.xq_trees.specs.Forest.{count}
+use Rattle.xq_trees.specs.Tree.{Tree, IsTree, nodes}
+use Rattle.xq_trees.specs.Rows.{rows}
+use Rattle.xq_trees.specs.RegionTests.{plain_row}
+use Rattle.xq_trees.specs.declared.Axis.TheVariants as axis
 use Rattle.xq_sources.specs.AttributeRows.{AreAttributeRows}
 use Rattle.xq_meaning.specs.declared.node_tests.Test.{Test}
 use Rattle.xq_meaning.specs.declared.node_tests.Test.TheVariants as test

@@ -1,7 +1,7 @@
 -- Parents that a source tells at once.
 use Rattle.std.specs.Prelude.{ℕ, ◌<◌, List, length, Bool, true, slice_index, nat_lt, Option, Some, None}
-use Rattle.xq_regions.specs.Tree.{Tree}
-use Rattle.xq_regions.specs.Rows.{rows}
+use Rattle.xq_trees.specs.Tree.{Tree}
+use Rattle.xq_trees.specs.Rows.{rows}
 use Rattle.xq_sources.specs.Parents.{IsParentRow}
 
 -- there is no last place, or it comes before the place

@@ -1,9 +1,9 @@
 -- Elements by their names.
 use Rattle.std.specs.Prelude.{ℕ, ◌≡◌, ◌≤◌, List, Bool, ◌&&◌}
 use Rattle.std.specs.List.{list_any}
-use Rattle.xq_regions.specs.Tree.{Tree}
-use Rattle.xq_regions.specs.Rows.{row_at, rows}
-use Rattle.xq_regions.specs.RegionTests.{inside, one_below, plain_row}
+use Rattle.xq_trees.specs.Tree.{Tree}
+use Rattle.xq_trees.specs.Rows.{row_at, rows}
+use Rattle.xq_trees.specs.RegionTests.{inside, one_below, plain_row}
 use Rattle.xq_meaning.specs.declared.node_tests.Test.{Test}
 use Rattle.xq_axes.specs.private.Hits.{row_passes}
 

@@ -1,8 +1,8 @@
 -- One node, by whose row those below it are judged.
 use Rattle.std.proofs.Common.{suc}
 use Rattle.std.specs.Prelude.{ℕ, ◌-◌, ◌<◌, ◌≡◌, List, [], ◌∷◌, ◌++◌, length, take}
-use Rattle.xq_regions.specs.Forest.{count}
-use Rattle.xq_regions.specs.Tree.{Tree, IsTree, nodes}
+use Rattle.xq_trees.specs.Forest.{count}
+use Rattle.xq_trees.specs.Tree.{Tree, IsTree, nodes}
 use Rattle.xq_axes.specs.Reads.{Span}
 use Rattle.xq_axes.specs.private.Downward.{level_of, end_of}
 use Rattle.xq_axes.specs.declared.near.Owner.{Owner}

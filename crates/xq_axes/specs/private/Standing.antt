@@ -1,10 +1,10 @@
 -- Nodes of trees in which each has the content that its kind may have.
 use Rattle.std.specs.Prelude.{◌<◌, List, length, IsTrue}
 use Rattle.std.specs.List.{AllByRecursion}
-use Rattle.xq_regions.specs.Forest.{EachNode}
-use Rattle.xq_regions.specs.Node.{HasPath}
-use Rattle.xq_regions.specs.Tree.{Tree, IsTree, is_content}
-use Rattle.xq_regions.specs.declared.items.Node.{Node}
+use Rattle.xq_trees.specs.Forest.{EachNode}
+use Rattle.xq_trees.specs.Node.{HasPath}
+use Rattle.xq_trees.specs.Tree.{Tree, IsTree, is_content}
+use Rattle.xq_trees.specs.declared.items.Node.{Node}
 use Rattle.xq_sources.specs.Sources.{tree_at}
 use Rattle.xq_meaning.specs.Items.{Place, nodes_at}
 

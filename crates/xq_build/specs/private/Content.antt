@@ -3,11 +3,11 @@ use Rattle.std.specs.Prelude.{◌+◌, List, [], ◌∷◌, ◌++◌, Bool, true
 use Rattle.std.specs.List.{list_all}
 use Rattle.xq_atoms.specs.Text.{Text, is_empty}
 use Rattle.xq_atoms.specs.Cast.{text_of}
-use Rattle.xq_regions.specs.Forest.{Forest, end, node, join}
-use Rattle.xq_regions.specs.Tree.{Label, Tree}
+use Rattle.xq_trees.specs.Forest.{Forest, end, node, join}
+use Rattle.xq_trees.specs.Tree.{Label, Tree}
 use Rattle.xq_meaning.specs.Content.{is_text, text_label, copied}
 use Rattle.xq_meaning.specs.Items.{Item, Node, Atom, tree_below}
-use Rattle.xq_copies.specs.Leaves.{Leaf, leaves}
+use Rattle.xq_build.specs.private.Leaves.{Leaf, leaves}
 
 -- # Items as nodes: a run of atomic values that is not closed yet is known by its text
 

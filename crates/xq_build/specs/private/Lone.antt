@@ -3,10 +3,10 @@ use Rattle.std.specs.Prelude.{◌≡◌, List, [], ◌∷◌, false}
 use Rattle.xq_atoms.specs.Atom.{Atomic}
 use Rattle.xq_atoms.specs.Cast.{text_of}
 use Rattle.xq_atoms.specs.Text.{Text, is_empty}
-use Rattle.xq_regions.specs.Forest.{end, node}
-use Rattle.xq_regions.specs.Items.{ItemView, Value}
-use Rattle.xq_regions.specs.Tree.{Tree}
-use Rattle.xq_regions.specs.declared.Kind.TheVariants as kind
+use Rattle.xq_trees.specs.Forest.{end, node}
+use Rattle.xq_trees.specs.Items.{ItemView, Value}
+use Rattle.xq_trees.specs.Tree.{Tree}
+use Rattle.xq_trees.specs.declared.Kind.TheVariants as kind
 use Rattle.xq_meaning.specs.Content.{label, text_label}
 
 -- the items are one atomic value with this text, which is not empty

@@ -1,6 +1,6 @@
 -- How much is read to print one item.
 use Rattle.std.specs.Prelude.{List}
-use Rattle.xq_regions.specs.Tree.{Tree}
+use Rattle.xq_trees.specs.Tree.{Tree}
 use Rattle.xq_sources.specs.Meters.{Readings}
 use Rattle.xq_meaning.specs.Items.{Item}
 use Rattle.xq_build.specs.Reads.{ReadsAtMost, rows_below, own_rows}

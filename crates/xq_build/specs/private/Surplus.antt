@@ -3,15 +3,15 @@ use Rattle.std.specs.Prelude.{ℕ, ◌≡◌, ◌<◌, ◌≤◌, List, [], ◌�
 use Rattle.std.specs.List.{list_any}
 use Rattle.xq_atoms.specs.Text.{Text}
 use Rattle.xq_atoms.specs.declared.refusals.Code.{Code}
-use Rattle.xq_regions.specs.Forest.{Forest}
-use Rattle.xq_regions.specs.Tree.{Label, Tree, is_attribute, most_nodes}
-use Rattle.xq_regions.specs.declared.Kind.{Kind}
-use Rattle.xq_regions.specs.declared.items.Node.{Node}
+use Rattle.xq_trees.specs.Forest.{Forest}
+use Rattle.xq_trees.specs.Tree.{Label, Tree, is_attribute, most_nodes}
+use Rattle.xq_trees.specs.declared.Kind.{Kind}
+use Rattle.xq_trees.specs.declared.items.Node.{Node}
 use Rattle.xq_meaning.specs.Content.{is_text, copied, flattened}
 use Rattle.xq_meaning.specs.Items.{Item, tree_below}
 use Rattle.xq_meaning.specs.Readings.{node_at}
-use Rattle.xq_copies.specs.Leaves.{Leaf, leaves}
-use Rattle.xq_attributes.specs.Attributes.{fault_from}
+use Rattle.xq_build.specs.private.Leaves.{Leaf, leaves}
+use Rattle.xq_build.specs.private.Attributes.{fault_from}
 use Rattle.xq_build.specs.private.Content.{is_top_text, is_kept, are_low, so_far, flattened_with, Childless}
 
 -- a node that stays a node of its own, whatever stands beside it

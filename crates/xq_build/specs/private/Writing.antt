@@ -1,9 +1,9 @@
 -- Writing at the end of a text, up to a limit of bytes.
 use Rattle.std.specs.Prelude.{◌≡◌, ℕ, ◌<◌, ◌≤◌, List, [], ◌∷◌, ◌++◌, length, Result, Ok, Err, String, string_bytes, if◌then◌else◌, ◌==◌, codes}
 use Rattle.std.specs.Char.{encode_utf8}
-use Rattle.xq_regions.specs.Tree.{Tree}
-use Rattle.xq_regions.specs.Printing.{text_from}
-use Rattle.xq_copies.specs.Leaves.{Leaf}
+use Rattle.xq_trees.specs.Tree.{Tree}
+use Rattle.xq_trees.specs.Printing.{text_from}
+use Rattle.xq_build.specs.private.Leaves.{Leaf}
 use Rattle.xq_meaning.specs.Items.{Item}
 use Rattle.xq_meaning.specs.Print.{print_item}
 use Rattle.xq_atoms.specs.declared.refusals.Code.TheVariants.{ProfReply}

@@ -1,13 +1,13 @@
 use Rattle.std.proofs.Common.{rules, to_z, of_z, w64, ◌≡◌, ◌++◌, ◌+◌, ◌-◌, ◌*◌, List, [], ◌∷◌, map, subst, sym, ap, ◌∙◌, Ok, Err, arith, length, suc, add-one, refl, Bool, true, false, ◌<◌, ◌≤◌, ◌^◌, take, drop, not, Some}
 use Rattle.std.specs.Global.{Vec, Global}
 use Rattle.std.proofs.lemmas.List.{map-append, drop_all, length-map, length-append, append-nil, take_at, take_all}
-use Rattle.xq_forms.specs.declared.frames.Frame.{Frame as Held}
+use Rattle.xq_operators.specs.declared.contexts.EvalContext.{EvalContext as Held}
 use Rattle.xq_atoms.specs.Atom.{Atomic, Integer, String as AtomicString, atomic_of}
 use Rattle.xq_atoms.specs.declared.atoms.Atom.{Atom as AtomHeld}
 use Rattle.xq_atoms.specs.declared.refusals.Code.TheVariants.{XPTY0019}
 use Rattle.xq_atoms.specs.declared.refusals.Fault.TheVariants.{Code as OfCode}
-use Rattle.xq_regions.specs.Tuples.{Tuple, expanded, numbered, bound, satisfying}
-use Rattle.xq_regions.specs.Items.{ItemView, Place as NodeAt, Value, item_view, item_views}
+use Rattle.xq_trees.specs.Tuples.{Tuple, expanded, numbered, bound, satisfying}
+use Rattle.xq_trees.specs.Items.{ItemView, Place as NodeAt, Value, item_view, item_views}
 use Rattle.xq_eval.specs.declared.positions.ByPosition.{ByPosition}
 use Rattle.xq_eval.specs.private.Positions.{IsPositional}
 use Rattle.xq_eval.specs.private.Numbers.{TellsNumber}
@@ -32,17 +32,17 @@ use Rattle.xq_meaning.specs.Doing.{◌>>=◌, Outcome, go_on, give, judged, on_t
 use Rattle.xq_meaning.specs.PlanMeaning.{Frame, Meaning, flwor, plan_mean, plan_clause_mean, plan_step_mean, at_tuple, next_clause, next_step}
 use Rattle.xq_meaning.proofs.PlanEquations.{plan-Int, plan-Str, plan-Root, plan-Step, plan-Named, plan-Unnamed, plan-Call, plan-Quantified, clause-Group, clause-Order, clause-Refused, step-Scan, plan-Dec, plan-Slot, plan-ContextItem, plan-Sequence, plan-Chain, plan-Unary, plan-If, plan-Or, plan-And, plan-Filter, plan-Path, plan-Flwor, step-Each, clause-For, clause-Let, clause-Where, clause-Count, plan-Arrow, plan-Map}
 use Rattle.xq_meaning.proofs.Turns.{begun_then}
-use Rattle.xq_forms.specs.Views.{order_specs, calling, ordering, after_double_slash, parents_below, plant_named, plant_unnamed, tuple_at, tuples_at, lists_of, spot_at, forget, frame_at, TupleIn, TuplesIn, GivesNode, GivesSequence, GivesTuples, FrameIn}
+use Rattle.xq_operators.specs.Views.{order_specs, calling, ordering, after_double_slash, parents_below, plant_named, plant_unnamed, tuple_at, tuples_at, lists_of, spot_at, forget, frame_at, TupleIn, TuplesIn, GivesNode, GivesSequence, GivesTuples, FrameIn}
 use Rattle.xq_eval.specs.private.Results.{GivesKey, GivesKeys, GivesLists, GivesTests, GivesPlain}
 use Rattle.xq_eval.specs.private.Filled.{filled}
-use Rattle.xq_forms.proofs.Growth.{extends_itself, extends_more, stays, frame_grown, frame_in_grown, items_grown, are_in_grown, item_at_grown, in_grown, tuple_grown, tuple_in_grown, tuples_grown, tuples_in_grown, goes_on_to}
-use Rattle.xq_regions.specs.declared.Axis.TheVariants.{Child, DescendantOrSelf}
+use Rattle.xq_operators.proofs.Growth.{extends_itself, extends_more, stays, frame_grown, frame_in_grown, items_grown, are_in_grown, item_at_grown, in_grown, tuple_grown, tuple_in_grown, tuples_grown, tuples_in_grown, goes_on_to}
+use Rattle.xq_trees.specs.declared.Axis.TheVariants.{Child, DescendantOrSelf}
 use Rattle.xq_meaning.specs.declared.node_tests.Test.TheVariants.{Any}
 use Rattle.xq_meaning.specs.declared.plans.PlanStep.TheVariants as plan_step
 use Rattle.std.specs.Prelude.{IsSome, Option}
 use Rattle.std.specs.Option.{option_copied}
-use Rattle.xq_regions.specs.declared.items.Item.{Item as Item_held}
-use Rattle.xq_regions.specs.Tree.{Tree}
+use Rattle.xq_trees.specs.declared.items.Item.{Item as Item_held}
+use Rattle.xq_trees.specs.Tree.{Tree}
 use Rattle.xq_joins.specs.Joins.{all_matched}
 use Rattle.xq_joins.specs.Keys.{IsNode}
 use Rattle.xq_joins.proofs.Lists.{all_index}
@@ -63,8 +63,8 @@ use Rattle.xq_eval.specs.private.Keys.{keys_at}
 use Rattle.xq_eval.specs.private.Quantifying.{holds, at_top, resumed, tried, weigh, all_weigh}
 use Rattle.std.specs.Prelude.{string_bytes, IfSome, if◌then◌else◌}
 use Rattle.xq_eval.proofs.Steps.{double_slash_is, parents_below_is, axis_order_read, axis_order_in, step_from, named_is, same_goes, more_next, tested_ok, tested_err, go_on_stop, list_next, passed_ok, passed_err, kept_read, spots_left, element, left_at, frame_inner, frame_inner_in, bound_in, kept_in, expanded_in, numbered_in, slash_ok, slash_err, same_tests, any_tests}
-use Rattle.xq_forms.proofs.Lists.{all_at}
-use Rattle.xq_forms.proofs.Natural.{bound_natural, kept_natural, expanded_natural, numbered_natural}
+use Rattle.xq_operators.proofs.Lists.{all_at}
+use Rattle.xq_operators.proofs.Natural.{bound_natural, kept_natural, expanded_natural, numbered_natural}
 use Rattle.xq_tuples.proofs.Copies.{values_of-clones}
 use Rattle.xq_eval.specs.private.Bindings.{values_left, stack_of, Falls, Moved, MovesOn}
 use Rattle.xq_eval.specs.private.Turns.{GivesTurn, IsTurn, values_found}
@@ -74,7 +74,7 @@ use Rattle.xq_meaning.specs.Forms as Forms
 use Rattle.std.specs.List.{AllByRecursion}
 use Rattle.std.proofs.Math.Nat.{mul-le-mul_right}
 use Rattle.xq_meaning.specs.declared.plans.Plan.{out-Plan}
-use Rattle.xq_forms.specs.Reads.{rows_of, AreOf, HasGrown}
+use Rattle.xq_operators.specs.Reads.{rows_of, AreOf, HasGrown}
 use Rattle.xq_eval.specs.Reads.{rows_at}
 use Rattle.xq_eval.specs.private.Scanning.{IsLiteral, IsScan}
 use Rattle.xq_eval.proofs.DocumentScans.{other_form, literal_scans, call_scans, path_scans, are_scans, not_each, no_each, grown_more, not_grown, grown_from, grown_on, once, literal_value, document_value}
@@ -82,7 +82,7 @@ use Rattle.xq_eval.proofs.FirstScans.{all_drop, most_drop, slice_left, node_ther
 use Rattle.xq_eval.proofs.TextSteps.{slashes_then}
 use Rattle.xq_eval.specs.private.Texts.{GivesFound}
 use Rattle.xq_eval.proofs.Counted.{only_text, first_same}
-use Rattle.xq_forms.specs.Reads.{IsAtom}
+use Rattle.xq_operators.specs.Reads.{IsAtom}
 use Rattle.xq_expressions.specs.declared.operators.AllowingEmpty.TheVariants.{No}
 use Rattle.xq_eval.proofs.FlatKeys.{from_done, collected_is, for_each_length, are_rows, order_is, order_stops}
 use Rattle.xq_eval.proofs.LoneFor.{lone_for_is}
@@ -1636,24 +1636,24 @@ paths::each-returns-in_err-found-clause-gives g t c = λ clean inside items_in.
 pub paths::each-returns-in-Some-clause-gives : goal.paths::each-returns-in-Some-clause-gives
 paths::each-returns-in-Some-clause-gives g t c = λ clean inside items_in.
     let f = g.W.TreeSource.forest c.args.world.now in
-    let f' = g.W.TreeSource.forest c.told_at_each.new.source in
+    let f' = g.W.TreeSource.forest c.call_per_node.new.source in
     let frame = frame_at f c.args.frame in
     let whole = collected (λ (s : Spot). plan_mean c.args.part.now (Forms.in_focus frame s)) (focuses (items_at f (map item_view c.args.items.now))) f in
     subst (λ r. GivesFound whole f' (Ok r)) c.in-Some.is (c.in_ok-told.ensures.gives clean items_in frame)
 
 pub paths::each-returns-in-Some-clause-goes : goal.paths::each-returns-in-Some-clause-goes
-paths::each-returns-in-Some-clause-goes g t c = same_goes c.told_at_each.ensures.keeps c.told_at_each.ensures.was_clean
+paths::each-returns-in-Some-clause-goes g t c = same_goes c.call_per_node.ensures.keeps c.call_per_node.ensures.was_clean
 
 pub paths::each-returns-in_err-told-clause-gives : goal.paths::each-returns-in_err-told-clause-gives
 paths::each-returns-in_err-told-clause-gives g t c = λ clean inside items_in.
     let f = g.W.TreeSource.forest c.args.world.now in
-    let f' = g.W.TreeSource.forest c.told_at_each.new.source in
+    let f' = g.W.TreeSource.forest c.call_per_node.new.source in
     let frame = frame_at f c.args.frame in
     let whole = collected (λ (s : Spot). plan_mean c.args.part.now (Forms.in_focus frame s)) (focuses (items_at f (map item_view c.args.items.now))) f in
     handed_on item_views items_at AreIn whole f' c.in_err-told.field-0.0 c.from_residual.result c.from_residual.ensures.1 (c.in_err-told.ensures.gives clean items_in frame)
 
 pub paths::each-returns-in_err-told-clause-goes : goal.paths::each-returns-in_err-told-clause-goes
-paths::each-returns-in_err-told-clause-goes g t c = same_goes c.told_at_each.ensures.keeps c.told_at_each.ensures.was_clean
+paths::each-returns-in_err-told-clause-goes g t c = same_goes c.call_per_node.ensures.keeps c.call_per_node.ensures.was_clean
 
 pub paths::each-returns-in_err-found-clause-goes : goal.paths::each-returns-in_err-found-clause-goes
 paths::each-returns-in_err-found-clause-goes g t c = goes_on_to c.loop-index.invariant.goes c.in_err-found.ensures.goes

@@ -1,13 +1,13 @@
 -- Plans whose value is one atom, known before it is evaluated.
 use Rattle.std.specs.Prelude.{◌≡◌, ℕ, pos, List, Ok}
 use Rattle.xq_atoms.specs.Atom.{Atomic, Integer}
-use Rattle.xq_regions.specs.Tree.{Tree}
+use Rattle.xq_trees.specs.Tree.{Tree}
 use Rattle.xq_tuples.specs.declared.slots.SlotValue.{SlotValue}
 use Rattle.xq_tuples.specs.Views.{values_of}
 use Rattle.xq_meaning.specs.declared.plans.Plan.{Plan}
 use Rattle.xq_meaning.specs.Arguments.{atomic}
 use Rattle.xq_meaning.specs.PlanMeaning.{Frame, Meaning, plan_mean}
-use Rattle.xq_forms.specs.Views.{tuple_at}
+use Rattle.xq_operators.specs.Views.{tuple_at}
 
 -- in every frame the plan gives this atom, and leaves the trees
 abbrev pub Gives : Plan → Atomic → Type 0

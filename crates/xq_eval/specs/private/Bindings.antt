@@ -1,8 +1,8 @@
 -- The variables of a quantified expression that have a value.
 use Rattle.std.specs.Prelude.{◌≡◌, ℕ, ◌+◌, List, [], ◌∷◌, ◌++◌, map, take, drop, length, Bool, true, false}
 use Rattle.std.specs.Global.{Vec}
-use Rattle.xq_regions.specs.Items.{ItemView, item_views}
-use Rattle.xq_regions.specs.Tuples.{Tuple}
+use Rattle.xq_trees.specs.Items.{ItemView, item_views}
+use Rattle.xq_trees.specs.Tuples.{Tuple}
 use Rattle.xq_eval.specs.declared.variables.Variable.{Variable}
 
 -- the value that a variable has, and those that it has left

@@ -3,7 +3,7 @@ use Rattle.std.specs.Prelude.{◌≡◌, Option, Some}
 use Rattle.xq_meaning.specs.declared.plans.Plan.TheVariants.{Step}
 use Rattle.xq_meaning.specs.declared.plans.PlanStep.{PlanStep}
 use Rattle.xq_meaning.specs.declared.plans.PlanStep.TheVariants.{Each}
-use Rattle.xq_regions.specs.declared.Axis.TheVariants.{Child}
+use Rattle.xq_trees.specs.declared.Axis.TheVariants.{Child}
 use Rattle.xq_eval.specs.declared.texts.ChosenChildren.{ChosenChildren}
 
 -- there is a step, and it is this one

@@ -2,14 +2,14 @@
 use Rattle.std.specs.Prelude.{◌≡◌, List, Option, Some, None, Result, Ok, Err, false}
 use Rattle.std.specs.Global.{Vec}
 use Rattle.xq_atoms.specs.declared.refusals.Fault.{Fault}
-use Rattle.xq_regions.specs.declared.items.Item.{Item as Held}
-use Rattle.xq_regions.specs.Items.{ItemView, Value}
-use Rattle.xq_regions.specs.Tree.{Tree}
-use Rattle.xq_regions.specs.Tuples.{Tuple, expanded}
+use Rattle.xq_trees.specs.declared.items.Item.{Item as Held}
+use Rattle.xq_trees.specs.Items.{ItemView, Value}
+use Rattle.xq_trees.specs.Tree.{Tree}
+use Rattle.xq_trees.specs.Tuples.{Tuple, expanded}
 use Rattle.xq_meaning.specs.declared.plans.PlanClause.{PlanClause}
 use Rattle.xq_meaning.specs.Doing.{◌>>=◌, give}
 use Rattle.xq_meaning.specs.PlanMeaning.{Frame, ClauseMeaning, plan_clause_mean}
-use Rattle.xq_forms.specs.Views.{tuples_at, lists_of, TuplesIn, GivesTuples}
+use Rattle.xq_operators.specs.Views.{tuples_at, lists_of, TuplesIn, GivesTuples}
 
 -- what the next clause means, if there is one
 abbrev pub next_mean : Option PlanClause → ClauseMeaning

@@ -2,8 +2,8 @@
 use Rattle.std.specs.Prelude.{◌≡◌, ℕ, pos, List, [], ◌∷◌, Ok}
 use Rattle.xq_atoms.specs.Atom.{Integer, Boolean}
 use Rattle.xq_atoms.specs.Compare.{key, key_cmp, holds}
-use Rattle.xq_regions.specs.Items.{ItemView, Value, item_views}
-use Rattle.xq_regions.specs.Tree.{Tree}
+use Rattle.xq_trees.specs.Items.{ItemView, Value, item_views}
+use Rattle.xq_trees.specs.Tree.{Tree}
 use Rattle.xq_meaning.specs.declared.plans.Plan.{Plan}
 use Rattle.xq_meaning.specs.Forms as Forms
 use Rattle.xq_meaning.specs.Functions.{Focus}

@@ -3,13 +3,13 @@ use Rattle.std.specs.Prelude.{List, Result}
 use Rattle.std.specs.Global.{Vec}
 use Rattle.xq_atoms.specs.declared.refusals.Fault.{Fault}
 use Rattle.xq_atoms.specs.Atom.{Atomic}
-use Rattle.xq_regions.specs.declared.items.Item.{Item as Held}
-use Rattle.xq_regions.specs.Tree.{Tree}
+use Rattle.xq_trees.specs.declared.items.Item.{Item as Held}
+use Rattle.xq_trees.specs.Tree.{Tree}
 use Rattle.xq_tuples.specs.declared.rows.Key.{Key}
 use Rattle.xq_tuples.specs.Keys.{values_in, row_of, rows_in}
 use Rattle.xq_meaning.specs.Items.{Item}
 use Rattle.xq_meaning.specs.Doing.{Outcome}
-use Rattle.xq_forms.specs.Views.{GivesAs, lists_of, tuple_at, TupleIn}
+use Rattle.xq_operators.specs.Views.{GivesAs, lists_of, tuple_at, TupleIn}
 
 -- a sequence for each of several expressions
 abbrev pub GivesLists : Outcome (List (List Item)) → List Tree → Result (Vec (Vec Held)) Fault →

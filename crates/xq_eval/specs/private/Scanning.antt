@@ -1,8 +1,8 @@
 -- Plans that read nothing, or a document by scans alone.
 use Rattle.std.specs.Prelude.{◌≡◌, List, [], ◌∷◌}
 use Rattle.xq_atoms.specs.Text.{Text}
-use Rattle.xq_regions.specs.declared.Axis.{Axis}
-use Rattle.xq_regions.specs.Tree.{Tree}
+use Rattle.xq_trees.specs.declared.Axis.{Axis}
+use Rattle.xq_trees.specs.Tree.{Tree}
 use Rattle.xq_sources.specs.Meters.{Readings}
 use Rattle.xq_expressions.specs.declared.signatures.Function.TheVariants.{Doc}
 use Rattle.xq_meaning.specs.declared.node_tests.Test.{Test}

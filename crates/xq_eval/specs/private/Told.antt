@@ -1,7 +1,7 @@
 -- Calls on each of several items.
 use Rattle.std.specs.Prelude.{◌≡◌, List, [], ◌∷◌}
 use Rattle.xq_expressions.specs.declared.signatures.Function.{Function}
-use Rattle.xq_regions.specs.Tree.{Tree}
+use Rattle.xq_trees.specs.Tree.{Tree}
 use Rattle.xq_meaning.specs.declared.plans.Plan.{Plan}
 use Rattle.xq_meaning.specs.Forms as Forms
 use Rattle.xq_meaning.specs.Functions.{Focus, of_one}

@@ -4,9 +4,9 @@ use Rattle.std.specs.Global.{Vec, Global}
 use Rattle.std.specs.declared.rc.Rc.{Rc}
 use Rattle.xq_atoms.specs.declared.refusals.Fault.{Fault}
 use Rattle.xq_atoms.specs.declared.refusals.Fault.TheVariants.{Code as OfCode, Want as OfWant}
-use Rattle.xq_regions.specs.declared.items.Item.{Item as Held}
-use Rattle.xq_regions.specs.Items.{ItemView, item_views}
-use Rattle.xq_regions.specs.Tree.{Tree}
+use Rattle.xq_trees.specs.declared.items.Item.{Item as Held}
+use Rattle.xq_trees.specs.Items.{ItemView, item_views}
+use Rattle.xq_trees.specs.Tree.{Tree}
 use Rattle.xq_meaning.specs.declared.plans.Plan.{Plan}
 use Rattle.xq_meaning.specs.PlanMeaning.{Frame, Meaning}
 use Rattle.xq_meaning.specs.Readings.{items_at, AreIn}

@@ -6,14 +6,14 @@ use Rattle.xq_atoms.specs.declared.refusals.Code.TheVariants.{XPTY0004}
 use Rattle.xq_atoms.specs.Judged.{Judged, ◌>>=◌}
 use Rattle.xq_expressions.specs.declared.operators.SetOperator.{SetOperator}
 use Rattle.xq_expressions.specs.declared.operators.SetOperator.TheVariants.{Intersect, Except}
-use Rattle.xq_regions.specs.Items.{ItemView, Place as NodeAt, Value}
-use Rattle.xq_regions.specs.Order.{path_at}
-use Rattle.xq_regions.specs.Rising.{AreRising}
-use Rattle.xq_regions.specs.Tree.{Tree}
+use Rattle.xq_trees.specs.Items.{ItemView, Place as NodeAt, Value}
+use Rattle.xq_trees.specs.Order.{path_at}
+use Rattle.xq_trees.specs.Rising.{AreRising}
+use Rattle.xq_trees.specs.Tree.{Tree}
 use Rattle.xq_sources.specs.Sources.{HasNode}
 use Rattle.xq_meaning.specs.Items.{Place, place, nodes_at}
 use Rattle.xq_meaning.specs.Arguments.{each}
-use Rattle.xq_regions.specs.declared.items.Node.{Node as Spot}
+use Rattle.xq_trees.specs.declared.items.Node.{Node as Spot}
 
 -- the node at a place
 abbrev pub view : Spot → ItemView

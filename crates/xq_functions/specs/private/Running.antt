@@ -2,7 +2,7 @@
 use Rattle.std.specs.Prelude.{◌≡◌, List, [], ◌++◌, map, Bool, Ok}
 use Rattle.xq_atoms.specs.declared.comparisons.CompOp.{CompOp}
 use Rattle.xq_atoms.specs.Compare.{Key, key, key_cmp, holds}
-use Rattle.xq_regions.specs.Items.{ItemView, Value}
+use Rattle.xq_trees.specs.Items.{ItemView, Value}
 use Rattle.xq_atoms.specs.Judged.{Judged, ◌>>=◌}
 use Rattle.xq_atoms.specs.Text.{Text}
 use Rattle.xq_atoms.specs.Atom.{Atomic}

@@ -1,10 +1,10 @@
 -- A step and a key that a predicate compares.
 use Rattle.std.specs.Prelude.{◌≡◌, ◌<◌, ℕ, List, [], ◌∷◌, map, Bool, true, false, not, ◌||◌, ◌&&◌, Ok, string_bytes}
 use Rattle.std.specs.List.{AllByRecursion}
-use Rattle.xq_regions.specs.declared.items.Node.{Node as Spot}
-use Rattle.xq_regions.specs.Items.{ItemView}
-use Rattle.xq_regions.specs.Tree.{Tree}
-use Rattle.xq_regions.specs.Tuples.{Tuple, value_at}
+use Rattle.xq_trees.specs.declared.items.Node.{Node as Spot}
+use Rattle.xq_trees.specs.Items.{ItemView}
+use Rattle.xq_trees.specs.Tree.{Tree}
+use Rattle.xq_trees.specs.Tuples.{Tuple, value_at}
 use Rattle.xq_meaning.specs.declared.plans.Plan.{Plan}
 use Rattle.xq_meaning.specs.Arguments.{boolean}
 use Rattle.xq_meaning.specs.Forms as Forms

@@ -1,8 +1,8 @@
 -- Paths from a document.
 use Rattle.std.specs.Prelude.{◌≡◌, ◌<◌, List, [], ◌∷◌, length, map, Ok}
 use Rattle.xq_atoms.specs.Text.{Text}
-use Rattle.xq_regions.specs.declared.items.Node.{Node as Spot}
-use Rattle.xq_regions.specs.Tree.{Tree}
+use Rattle.xq_trees.specs.declared.items.Node.{Node as Spot}
+use Rattle.xq_trees.specs.Tree.{Tree}
 use Rattle.xq_sources.specs.Sources.{HasNode}
 use Rattle.xq_meaning.specs.declared.plans.Plan.{Plan}
 use Rattle.xq_meaning.specs.Doing.{in_turn}
@@ -10,8 +10,8 @@ use Rattle.xq_meaning.specs.Functions as Functions
 use Rattle.xq_meaning.specs.Items.{Node, root_of}
 use Rattle.xq_meaning.specs.PlanMeaning.{plan_mean, plan_step_mean, next_step}
 use Rattle.xq_meaning.specs.Readings.{node_at}
-use Rattle.xq_forms.specs.declared.frames.Frame.{Frame}
-use Rattle.xq_forms.specs.Views.{frame_at, FrameIn}
+use Rattle.xq_operators.specs.declared.contexts.EvalContext.{EvalContext}
+use Rattle.xq_operators.specs.Views.{frame_at, FrameIn}
 use Rattle.xq_joins.specs.declared.paths.DocumentPath.{DocumentPath}
 
 -- the node is the root of the tree of the document at the address
@@ -22,7 +22,7 @@ pub record IsDocument (addresses : List Text) (address : Text) (n : Spot) : Type
 
 -- in the frame, over any trees that have its nodes, the plan gives what the steps lead to from the
 -- document
-pub record IsDocumentPath (frame : Frame) (path : DocumentPath) (p : Plan) : Type 0 where
+pub record IsDocumentPath (frame : EvalContext) (path : DocumentPath) (p : Plan) : Type 0 where
   pub there : (trees : List Tree) → FrameIn trees frame
       → HasNode trees path.document.tree path.document.pre
   pub gives : (trees : List Tree) → FrameIn trees frame

@@ -2,7 +2,7 @@
 use Rattle.std.specs.Prelude.{◌≡◌, ℕ, List, [], ◌∷◌, ◌⊎◌}
 use Rattle.std.specs.List.{AllByRecursion}
 use Rattle.xq_atoms.specs.Text.{Text}
-use Rattle.xq_regions.specs.declared.Axis.{Axis}
+use Rattle.xq_trees.specs.declared.Axis.{Axis}
 use Rattle.xq_expressions.specs.declared.operators.ComparisonOperator.TheVariants as comparing
 use Rattle.xq_expressions.specs.declared.operators.Relation.TheVariants as relation
 use Rattle.xq_expressions.specs.declared.signatures.Function.{Function}

@@ -2,9 +2,9 @@
 use Rattle.std.specs.Prelude.{◌≡◌, List, [], ◌∷◌, map, Ok}
 use Rattle.xq_atoms.specs.Atom.{Atomic, String, Untyped}
 use Rattle.xq_atoms.specs.Text.{Text}
-use Rattle.xq_regions.specs.Items.{ItemView, Value}
-use Rattle.xq_regions.specs.Tree.{Tree}
-use Rattle.xq_regions.specs.Tuples.{Tuple}
+use Rattle.xq_trees.specs.Items.{ItemView, Value}
+use Rattle.xq_trees.specs.Tree.{Tree}
+use Rattle.xq_trees.specs.Tuples.{Tuple}
 use Rattle.xq_meaning.specs.declared.plans.Plan.{Plan}
 use Rattle.xq_meaning.specs.Arguments.{atomic}
 use Rattle.xq_meaning.specs.PlanMeaning.{Frame, plan_mean}
@@ -12,9 +12,9 @@ use Rattle.xq_meaning.specs.Items.{Node}
 use Rattle.xq_meaning.specs.Readings.{node_at}
 use Rattle.xq_meaning.specs.Steps.{axis_nodes}
 use Rattle.xq_sources.specs.Sources.{HasNode}
-use Rattle.xq_forms.specs.declared.frames.Frame.{Frame as HeldFrame}
-use Rattle.xq_forms.specs.declared.paths.ShortPath.{ShortPath}
-use Rattle.xq_forms.specs.Views.{tuple_at, frame_at, FrameIn}
+use Rattle.xq_operators.specs.declared.contexts.EvalContext.{EvalContext as HeldFrame}
+use Rattle.xq_operators.specs.declared.paths.ShortPath.{ShortPath}
+use Rattle.xq_operators.specs.Views.{tuple_at, frame_at, FrameIn}
 
 -- a string or an untyped value with this text
 abbrev pub IsText : Atomic → Text → Type 0

@@ -1,6 +1,6 @@
 -- Shapes of rows that are compared with others.
 use Rattle.std.specs.Prelude.{ℕ, ◌≡◌, ◌-◌, ◌<◌, ◌≤◌, List, length, slice_index_or}
-use Rattle.xq_regions.specs.declared.Kind.TheVariants.{Document}
+use Rattle.xq_trees.specs.declared.Kind.TheVariants.{Document}
 use Rattle.xq_packed.specs.declared.shapes.Shape.{Shape}
 use Rattle.xq_packed.specs.private.Shapes.{value_end, name_at}
 

@@ -2,7 +2,7 @@
 use Rattle.std.proofs.Common.{zero, suc}
 use Rattle.std.specs.Prelude.{ℕ, ◌≡◌, ◌+◌, ◌-◌, ◌*◌, ◌^◌, ◌<◌, ◌≤◌, List, [], ◌∷◌, take, drop, length, slice_index_or}
 use Rattle.std.specs.Str.{IsUtf8}
-use Rattle.xq_regions.specs.Rows.{Row}
+use Rattle.xq_trees.specs.Rows.{Row}
 use Rattle.xq_packed.specs.Packed.{row, IsNumbered}
 use Rattle.xq_packed.specs.declared.shapes.Shape.{Shape}
 

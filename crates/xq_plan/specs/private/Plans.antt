@@ -5,8 +5,8 @@ use Rattle.std.specs.List.{AllByRecursion}
 use Rattle.xq_atoms.specs.Text.{Text}
 use Rattle.xq_expressions.specs.declared.operators.OrderModifier.{OrderModifier}
 use Rattle.xq_expressions.specs.declared.signatures.Function.{Function}
-use Rattle.xq_regions.specs.Tree.{Tree}
-use Rattle.xq_regions.specs.Tuples.{Tuple}
+use Rattle.xq_trees.specs.Tree.{Tree}
+use Rattle.xq_trees.specs.Tuples.{Tuple}
 use Rattle.xq_meaning.specs.Functions.{Focus}
 use Rattle.xq_meaning.specs.Items.{Item}
 use Rattle.xq_meaning.specs.declared.operators.Operator.{Operator}

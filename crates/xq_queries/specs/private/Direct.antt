@@ -1,7 +1,7 @@
 -- What a plan gives that is made form by form.
 use Rattle.std.specs.Prelude.{◌≡◌, List, [], ◌∷◌, Option}
 use Rattle.xq_atoms.specs.Text.{Text}
-use Rattle.xq_regions.specs.Tree.{Tree}
+use Rattle.xq_trees.specs.Tree.{Tree}
 use Rattle.xq_expressions.specs.declared.expressions.ConstructorName.{ConstructorName}
 use Rattle.xq_expressions.specs.declared.expressions.Expr.{Expr}
 use Rattle.xq_meaning.specs.declared.plans.Plan.{Plan}

@@ -1,8 +1,8 @@
 -- Items of code whose numbers are within the bounds of their types.
 use Rattle.std.specs.Prelude.{List}
 use Rattle.std.specs.List.{AllByRecursion}
-use Rattle.xq_regions.specs.Items.{ItemView, Place, Value}
-use Rattle.xq_printable.specs.Results.{IsInRange}
+use Rattle.xq_trees.specs.Items.{ItemView, Place, Value}
+use Rattle.xq_readback.specs.Results.{IsInRange}
 
 -- an item that is a number is
 abbrev pub IsViewInRange : ItemView → Type 0

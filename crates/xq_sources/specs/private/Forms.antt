@@ -1,6 +1,6 @@
 -- Where rows lie that are lent.
 use Rattle.std.specs.Prelude.{ℕ, ◌+◌, ◌^◌, ◌<◌, ◌≤◌, List, drop, length, map, string_bytes}
-use Rattle.xq_regions.specs.Rows.{Row, placed}
+use Rattle.xq_trees.specs.Rows.{Row, placed}
 use Rattle.xq_sources.specs.Lent.{placed_between}
 use Rattle.xq_sources.specs.declared.lent.Form.{Form}
 use Rattle.xq_sources.specs.declared.lent.Form.TheVariants.{Listed, Packed}

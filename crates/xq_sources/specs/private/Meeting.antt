@@ -3,12 +3,12 @@ use Rattle.std.specs.Prelude.{ℕ, ◌≡◌, ◌-◌, ◌<◌, ◌≤◌, ◌++
 use Rattle.std.specs.List.{AllByRecursion, IsDistinct}
 use Rattle.std.specs.Str.{bytes_eq}
 use Rattle.xq_packed.specs.Packed.{NoneNamed}
-use Rattle.xq_regions.specs.Beside.{beside, root_of, root_row, lowered, lowered_rows, rooted, IsLow}
-use Rattle.xq_regions.specs.Forest.{count}
-use Rattle.xq_regions.specs.Items.{ItemView, Place, Value}
-use Rattle.xq_regions.specs.Rows.{Row, rows}
-use Rattle.xq_regions.specs.Tree.{Label, Tree, IsTree, is_attribute, is_content, has_text, may_follow, may_stand, attribute_names, most_nodes}
-use Rattle.xq_regions.specs.declared.Kind.{Kind}
+use Rattle.xq_trees.specs.Beside.{beside, root_of, root_row, lowered, lowered_rows, rooted, IsLow}
+use Rattle.xq_trees.specs.Forest.{count}
+use Rattle.xq_trees.specs.Items.{ItemView, Place, Value}
+use Rattle.xq_trees.specs.Rows.{Row, rows}
+use Rattle.xq_trees.specs.Tree.{Label, Tree, IsTree, is_attribute, is_content, has_text, may_follow, may_stand, attribute_names, most_nodes}
+use Rattle.xq_trees.specs.declared.Kind.{Kind}
 use Rattle.xq_sources.specs.private.Planted.{trees_after}
 use Rattle.xq_sources.specs.Sources.{no_tree, tree_at, HasTree}
 

@@ -1,8 +1,8 @@
 -- Trees whose rows lie one after another in one list.
 use Rattle.std.proofs.Common.{zero, suc}
 use Rattle.std.specs.Prelude.{ℕ, ◌≡◌, ◌≤◌, List, [], ◌∷◌, length, slice_range}
-use Rattle.xq_regions.specs.Rows.{Row, tree_of, AreRowsOf}
-use Rattle.xq_regions.specs.Tree.{Tree}
+use Rattle.xq_trees.specs.Rows.{Row, tree_of, AreRowsOf}
+use Rattle.xq_trees.specs.Tree.{Tree}
 
 -- the tree whose rows lie from one place to before another
 abbrev pub tree_between : List Row → ℕ → ℕ → Tree

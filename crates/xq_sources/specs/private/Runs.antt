@@ -1,7 +1,7 @@
 -- What fragments lend.
 use Rattle.std.specs.Prelude.{ℕ, List, [], Option, Some, None}
-use Rattle.xq_regions.specs.Tree.{Tree}
-use Rattle.xq_regions.specs.Rows.{Row}
+use Rattle.xq_trees.specs.Tree.{Tree}
+use Rattle.xq_trees.specs.Rows.{Row}
 use Rattle.xq_sources.specs.Sources.{rows_between}
 
 -- the rows of a tree from low to high, where there is a tree

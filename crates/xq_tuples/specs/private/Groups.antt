@@ -5,8 +5,8 @@ use Rattle.std.specs.List.{enumerate_from}
 use Rattle.xq_atoms.specs.declared.atoms.Atom.{Atom}
 use Rattle.xq_atoms.specs.declared.atoms.GroupKey.{GroupKey}
 use Rattle.xq_atoms.specs.Compare.{Key, key_of}
-use Rattle.xq_regions.specs.Tuples.{Tuple, Keyed, comparison_keys, same_keys, firsts, groups as groups_by}
-use Rattle.xq_regions.specs.Items.{ItemView}
+use Rattle.xq_trees.specs.Tuples.{Tuple, Keyed, comparison_keys, same_keys, firsts, groups as groups_by}
+use Rattle.xq_trees.specs.Items.{ItemView}
 use Rattle.xq_tuples.specs.private.KeyRows.{keys_at}
 
 abbrev pub compared_of : Vec GroupKey → List Key

@@ -1,7 +1,7 @@
 -- Tuples that lie in one list, one after another, and some of them kept in place.
 use Rattle.std.specs.Prelude.{◌≡◌, ℕ, ◌*◌, ◌<◌, ◌≤◌, ◌^◌, List, Bool, length, take, drop, replicate, if◌then◌else◌}
 use Rattle.std.specs.List.{flat_map}
-use Rattle.xq_regions.specs.Tuples.{satisfying}
+use Rattle.xq_trees.specs.Tuples.{satisfying}
 
 -- so many tuples of so many slots are so many slots in all. There are few enough tuples for their
 -- numbers, and where there is none they have no slot

@@ -1,7 +1,7 @@
 use Rattle.std.proofs.Common.{ℕ, sym, ap, subst, ◌∙◌}
 use Rattle.std.specs.Prelude.{IfSome}
-use Rattle.xq_regions.specs.Rows.{Row, rows, row_at}
-use Rattle.xq_packed_trees.specs.PackedTrees.{AreLevels}
+use Rattle.xq_trees.specs.Rows.{Row, rows, row_at}
+use Rattle.xq_packed.specs.PackedTrees.{AreLevels}
 use Rattle.xq_sources.specs.Lent.{placed_lent}
 use Rattle.xq_sources.specs.Meters.{Readings}
 use Rattle.xq_sources.specs.Sources.{tree_at}

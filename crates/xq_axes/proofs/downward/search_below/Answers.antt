@@ -2,8 +2,8 @@ use Rattle.std.proofs.Common.{◌≡◌, ◌+◌, ◌<◌, get_or, length, sym, 
 use Rattle.std.proofs.lemmas.Bool.{cases_lt}
 use Rattle.std.proofs.lemmas.List.{get_or_default}
 use Rattle.xq_sources.specs.Sources.{tree_at}
-use Rattle.xq_regions.specs.Forest.{count}
-use Rattle.xq_regions.specs.Tree.{nodes}
+use Rattle.xq_trees.specs.Forest.{count}
+use Rattle.xq_trees.specs.Tree.{nodes}
 use Rattle.xq_axes.specs.private.Downward.{end_of, IsNext, ReadsBelow}
 use Rattle.xq_axes.proofs.Picking.{same_places}
 use Rattle.xq_axes.proofs.Scans.{below_goes_on, below_stops, below_ends}

@@ -1,6 +1,6 @@
 use Rattle.std.proofs.Common.{◌≡◌, ◌≤◌, ◌-◌, inr, ℕ, ◌+◌, ◌∷◌, [], ◌++◌, ◌&&◌, cond, length, min, set, true, refl, sym, ap, subst, ◌∙◌, arith}
-use Rattle.xq_regions.specs.Tree.{Tree}
-use Rattle.xq_regions.specs.Rows.{Row, rows, row_at}
+use Rattle.xq_trees.specs.Tree.{Tree}
+use Rattle.xq_trees.specs.Rows.{Row, rows, row_at}
 use Rattle.xq_sources.specs.Lent.{placed_lent, row_lent}
 use Rattle.xq_sources.specs.Sources.{tree_at}
 use Rattle.xq_axes.specs.Reads.{span, span_end, IsSized}

@@ -1,7 +1,7 @@
 use Rattle.std.proofs.Common.{◌≡◌, ◌+◌, ◌∷◌, [], take, min, refl, sym, ap, subst, ◌∙◌}
-use Rattle.xq_regions.specs.Forest.{count}
-use Rattle.xq_regions.specs.Tree.{nodes}
-use Rattle.xq_regions.specs.declared.Axis.TheVariants as axis
+use Rattle.xq_trees.specs.Forest.{count}
+use Rattle.xq_trees.specs.Tree.{nodes}
+use Rattle.xq_trees.specs.declared.Axis.TheVariants as axis
 use Rattle.xq_sources.specs.Sources.{tree_at}
 use Rattle.xq_axes.specs.Reads.{span}
 use Rattle.xq_axes.specs.private.Hits.{is_wanted, below_where}

@@ -1,9 +1,9 @@
 use Rattle.std.proofs.Common.{◌≡◌, ◌+◌, ◌<◌, ◌≤◌, ◌∷◌, [], ℕ, suc, ap, ◌∙◌, arith}
 use Rattle.std.specs.Prelude.{filter}
 use Rattle.std.proofs.lemmas.Option.{IfSome_then}
-use Rattle.xq_regions.specs.Forest.{count}
-use Rattle.xq_regions.specs.Tree.{nodes}
-use Rattle.xq_regions.specs.declared.Axis.TheVariants as axis
+use Rattle.xq_trees.specs.Forest.{count}
+use Rattle.xq_trees.specs.Tree.{nodes}
+use Rattle.xq_trees.specs.declared.Axis.TheVariants as axis
 use Rattle.xq_sources.specs.Sources.{tree_at}
 use Rattle.xq_axes.specs.private.Hits.{is_wanted, below_where}
 use Rattle.xq_axes.specs.private.Named.{is_below_one}

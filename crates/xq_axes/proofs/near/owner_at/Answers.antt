@@ -1,5 +1,5 @@
 use Rattle.std.proofs.Common.{◌≡◌, ℕ, ap, ◌∙◌}
-use Rattle.xq_regions.specs.Rows.{Row, rows, row_at}
+use Rattle.xq_trees.specs.Rows.{Row, rows, row_at}
 use Rattle.xq_sources.specs.Lent.{placed_lent, row_lent}
 use Rattle.xq_sources.specs.Sources.{tree_at}
 use Rattle.xq_axes.proofs.OneNode.{ends_there}

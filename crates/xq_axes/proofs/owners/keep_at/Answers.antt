@@ -1,7 +1,7 @@
 use Rattle.std.proofs.Common.{◌≡◌, ◌++◌, ◌∷◌, [], ◌∙◌, refl, ap, sym, arith}
 use Rattle.std.specs.Global.{Vec}
-use Rattle.xq_regions.specs.Items.{item_view, item_views}
-use Rattle.xq_regions.specs.declared.items.Item.{Item}
+use Rattle.xq_trees.specs.Items.{item_view, item_views}
+use Rattle.xq_trees.specs.declared.items.Item.{Item}
 use Rattle.xq_axes.specs.private.Hits.{is_among}
 use Rattle.xq_axes.proofs.Owning.{decided, item_kept, item_left}
 use Rattle.xq_axes.proofs.owners.keep_at.Goals as goal

@@ -1,6 +1,6 @@
 use Rattle.std.proofs.Common.{◌≡◌, ℕ, Bool, map, take}
 use Rattle.std.specs.Prelude.{filter}
-use Rattle.xq_regions.specs.Items.{item_view, item_views, ItemView, Place as NodeAt}
+use Rattle.xq_trees.specs.Items.{item_view, item_views, ItemView, Place as NodeAt}
 use Rattle.xq_axes.specs.Many.{spot}
 use Rattle.xq_axes.specs.private.Hits.{is_among, IsRising}
 use Rattle.xq_axes.proofs.owners.keep_at.Given as goal

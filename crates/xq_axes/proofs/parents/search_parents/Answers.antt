@@ -1,8 +1,8 @@
 use Rattle.std.proofs.Common.{◌≡◌, ℕ, [], ◌∷◌, Vec, Global, length, subst, ap, ◌∙◌, arith}
 use Rattle.std.specs.Prelude.{IfOk, IfSome}
-use Rattle.xq_regions.specs.Forest.{count}
-use Rattle.xq_regions.specs.Tree.{nodes}
-use Rattle.xq_regions.specs.declared.Axis.TheVariants as axes
+use Rattle.xq_trees.specs.Forest.{count}
+use Rattle.xq_trees.specs.Tree.{nodes}
+use Rattle.xq_trees.specs.declared.Axis.TheVariants as axes
 use Rattle.xq_sources.specs.Sources.{tree_at}
 use Rattle.xq_axes.specs.private.Hits.{is_among, is_wanted, below_where, IsRising}
 use Rattle.xq_axes.specs.private.KnownParents.{AreTold}

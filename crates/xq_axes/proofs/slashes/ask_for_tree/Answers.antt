@@ -1,5 +1,5 @@
 use Rattle.std.proofs.Common.{map}
-use Rattle.xq_regions.specs.Tree.{IsTree}
+use Rattle.xq_trees.specs.Tree.{IsTree}
 use Rattle.xq_sources.specs.Sources.{tree_at}
 use Rattle.xq_axes.specs.Many.{spot}
 use Rattle.xq_axes.specs.private.Standing.{AreOfTrees}

@@ -1,12 +1,12 @@
 use Rattle.std.proofs.Common.{◌≡◌, ℕ, true, eqb, get_or, Option, Some, None, inl, inr, sym, ap, subst, ◌∙◌, arith}
 use Rattle.std.specs.Option.{option_eq}
 use Rattle.std.proofs.lemmas.Bool.{cases_lt, eqb-true}
-use Rattle.xq_regions.specs.Tree.{IsTree}
-use Rattle.xq_regions.specs.declared.items.Node.{Node}
+use Rattle.xq_trees.specs.Tree.{IsTree}
+use Rattle.xq_trees.specs.declared.items.Node.{Node}
 use Rattle.xq_sources.specs.Meters.{Readings}
 use Rattle.xq_sources.specs.Sources.{tree_at}
 use Rattle.xq_axes.proofs.Many.{default_at}
-use Rattle.xq_regions.proofs.Rising.{from_contains}
+use Rattle.xq_trees.proofs.Rising.{from_contains}
 use Rattle.xq_axes.proofs.slashes.ask_for_trees.Goals as goal
 
 asked_is : (asked : Option ℕ) (n : ℕ) → option_eq eqb asked (Some n) ≡ true → asked ≡ Some n

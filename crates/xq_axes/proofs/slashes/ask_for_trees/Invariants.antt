@@ -1,6 +1,6 @@
 use Rattle.std.proofs.Common.{◌≡◌, ℕ, ◌+◌, ◌<◌, ◌≤◌, Some, get_or}
-use Rattle.xq_regions.specs.Tree.{IsTree}
-use Rattle.xq_regions.specs.declared.items.Node.{Node}
+use Rattle.xq_trees.specs.Tree.{IsTree}
+use Rattle.xq_trees.specs.declared.items.Node.{Node}
 use Rattle.xq_sources.specs.Sources.{tree_at}
 use Rattle.xq_axes.proofs.slashes.ask_for_trees.Given as goal
 

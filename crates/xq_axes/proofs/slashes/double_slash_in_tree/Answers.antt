@@ -1,8 +1,8 @@
 use Rattle.std.proofs.Common.{List, map, IfOk, subst}
 use Rattle.std.proofs.lemmas.Result.{IfOk-weaker}
-use Rattle.xq_regions.specs.Rising.{AreRising}
-use Rattle.xq_regions.specs.Tree.{Tree}
-use Rattle.xq_regions.specs.declared.Axis.TheVariants.{Descendant}
+use Rattle.xq_trees.specs.Rising.{AreRising}
+use Rattle.xq_trees.specs.Tree.{Tree}
+use Rattle.xq_trees.specs.declared.Axis.TheVariants.{Descendant}
 use Rattle.xq_axes.specs.Many.{spot, AreReached}
 use Rattle.xq_axes.specs.Nodes.{HaveAll}
 use Rattle.xq_axes.proofs.DoubleSlash.{after_slashes}

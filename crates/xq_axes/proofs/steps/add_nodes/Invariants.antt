@@ -1,5 +1,5 @@
 use Rattle.std.proofs.Common.{◌≡◌, ℕ, ◌++◌, map, take}
-use Rattle.xq_regions.specs.Rising.{AreRising}
+use Rattle.xq_trees.specs.Rising.{AreRising}
 use Rattle.xq_axes.proofs.steps.add_nodes.Given as goal
 
 -- the nodes at the places so far were added, each after those before it

@@ -1,5 +1,5 @@
 use Rattle.std.proofs.Common.{◌≡◌, length, map, take, vec_capacity}
-use Rattle.xq_regions.specs.Items.{Place as NodeAt, item_views}
+use Rattle.xq_trees.specs.Items.{Place as NodeAt, item_views}
 use Rattle.xq_axes.specs.Many.{spot}
 use Rattle.xq_axes.proofs.steps.as_items.Given as goal
 

@@ -1,6 +1,6 @@
 use Rattle.std.proofs.Common.{ℕ, ◌++◌, map, sym, ap, ◌∙◌}
-use Rattle.xq_regions.specs.declared.items.Node.{Node}
-use Rattle.xq_regions.specs.Order.{path_at}
+use Rattle.xq_trees.specs.declared.items.Node.{Node}
+use Rattle.xq_trees.specs.Order.{path_at}
 use Rattle.xq_meaning.specs.Items.{place, nodes_at}
 use Rattle.xq_meaning.specs.Readings.{node_at}
 use Rattle.xq_axes.proofs.Many.{one_there, one_rises, axis_there}

@@ -1,7 +1,7 @@
 use Rattle.std.proofs.Common.{◌≡◌, map, ◌∙◌}
 use Rattle.std.proofs.lemmas.Result.{IfOk-weaker}
-use Rattle.xq_regions.specs.Items.{Place as NodeAt, item_views}
-use Rattle.xq_regions.specs.declared.Axis.TheVariants as axes
+use Rattle.xq_trees.specs.Items.{Place as NodeAt, item_views}
+use Rattle.xq_trees.specs.declared.Axis.TheVariants as axes
 use Rattle.xq_axes.specs.Nodes.{AreFirstOnAxis}
 use Rattle.xq_axes.specs.Many.{spot}
 use Rattle.xq_axes.proofs.First.{first_from_one}

@@ -1,6 +1,6 @@
 use Rattle.std.proofs.Common.{◌≡◌, map, ◌∙◌}
 use Rattle.std.proofs.lemmas.Result.{IfOk-weaker}
-use Rattle.xq_regions.specs.Items.{Place as NodeAt, item_views}
+use Rattle.xq_trees.specs.Items.{Place as NodeAt, item_views}
 use Rattle.xq_axes.specs.Nodes.{AreOnAxis}
 use Rattle.xq_axes.specs.Many.{spot}
 use Rattle.xq_axes.proofs.Many.{one_there, one_rises, from_one}

@@ -1,8 +1,8 @@
 use Rattle.std.proofs.Common.{◌≡◌, ◌-◌, ◌∷◌, [], ℕ, Option, length, map, sym, ap, ◌∙◌}
 use Rattle.std.specs.Prelude.{slice_get}
 use Rattle.std.proofs.lemmas.Result.{IfOk-weaker}
-use Rattle.xq_regions.specs.Items.{Place as NodeAt, item_view, item_views}
-use Rattle.xq_regions.specs.declared.Axis.TheVariants as axes
+use Rattle.xq_trees.specs.Items.{Place as NodeAt, item_view, item_views}
+use Rattle.xq_trees.specs.declared.Axis.TheVariants as axes
 use Rattle.xq_sources.specs.Sources.{tree_at}
 use Rattle.xq_axes.specs.Nodes.{IsLastOnAxis}
 use Rattle.xq_axes.specs.Many.{spot, places_from}

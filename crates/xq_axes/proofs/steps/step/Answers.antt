@@ -1,9 +1,9 @@
 use Rattle.std.proofs.Common.{◌++◌, ◌↔◌, sym, ap, subst, ◌∙◌}
 use Rattle.std.specs.List.{Contains}
-use Rattle.xq_regions.specs.declared.items.Node.{Node}
-use Rattle.xq_regions.specs.Rising.{AreRising}
+use Rattle.xq_trees.specs.declared.items.Node.{Node}
+use Rattle.xq_trees.specs.Rising.{AreRising}
 use Rattle.xq_axes.specs.Many.{AreSame}
-use Rattle.xq_regions.proofs.Rising.{rising_seen}
+use Rattle.xq_trees.proofs.Rising.{rising_seen}
 use Rattle.xq_axes.proofs.steps.step.Goals as goal
 
 pub returns-then-rises-clause-nodes : goal.returns-then-rises-clause-nodes

@@ -1,14 +1,14 @@
 use Rattle.std.proofs.Common.{◌≡◌, ◌≤◌, length, ◌+◌, ◌||◌, [], Bool, map, refl, sym, ap, subst, ◌∙◌, arith, get_or}
 use Rattle.std.specs.List.{list_any}
-use Rattle.xq_regions.specs.declared.items.Node.{Node}
+use Rattle.xq_trees.specs.declared.items.Node.{Node}
 use Rattle.xq_axes.specs.Many.{spot, is_found_from, AreThere, IsNext, IsGathered, IsAt}
 use Rattle.xq_axes.proofs.Many.{gathered_none, default_at, step_found, step_there, step_nodes, have_same}
 use Rattle.xq_sources.specs.Sources.{tree_at}
 use Rattle.xq_axes.specs.Scans.{region}
 use Rattle.xq_axes.proofs.Scans.{kept_rises, kept_region, still_one}
-use Rattle.xq_regions.specs.Rising.{AreRising}
+use Rattle.xq_trees.specs.Rising.{AreRising}
 use Rattle.xq_axes.proofs.Merging.{merged}
-use Rattle.xq_regions.proofs.Rising.{rising_none}
+use Rattle.xq_trees.proofs.Rising.{rising_none}
 use Rattle.xq_axes.proofs.steps.step_from.Goals as goal
 
 pub loop-context-init : goal.loop-context-init

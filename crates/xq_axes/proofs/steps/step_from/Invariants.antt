@@ -1,5 +1,5 @@
 use Rattle.std.proofs.Common.{◌≡◌, ◌≤◌, ◌+◌, ℕ, length}
-use Rattle.xq_regions.specs.Rising.{AreRising}
+use Rattle.xq_trees.specs.Rising.{AreRising}
 use Rattle.xq_axes.specs.Nodes.{HaveAll}
 use Rattle.xq_axes.specs.Scans.{AreOf}
 use Rattle.xq_axes.specs.Many.{IsGathered, AreKept}

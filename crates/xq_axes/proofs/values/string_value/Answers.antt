@@ -1,7 +1,7 @@
 use Rattle.std.proofs.Common.{◌≡◌, ◌∙◌, ℕ, List, Result, Ok, Err, sym, ap, subst, arith, Global, String, string_bytes}
 use Rattle.std.specs.Prelude.{IfOk, OnOk}
-use Rattle.xq_regions.specs.Rows.{Row, rows, row_at}
-use Rattle.xq_regions.specs.Value.{texts, string_value}
+use Rattle.xq_trees.specs.Rows.{Row, rows, row_at}
+use Rattle.xq_trees.specs.Value.{texts, string_value}
 use Rattle.xq_sources.specs.Lenders.{IsRun}
 use Rattle.xq_sources.specs.Sources.{tree_at, rows_between, HasNode}
 use Rattle.xq_meaning.specs.Items.{tree_below}

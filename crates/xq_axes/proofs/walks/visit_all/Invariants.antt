@@ -1,5 +1,5 @@
 use Rattle.std.proofs.Common.{◌+◌, ◌-◌, ◌≤◌, ℕ, length}
-use Rattle.xq_regions.specs.Tree.{Tree}
+use Rattle.xq_trees.specs.Tree.{Tree}
 use Rattle.xq_axes.specs.Reads.{Span, span_end, AreRowsIn}
 use Rattle.xq_axes.proofs.walks.visit_all.Given as goal
 

@@ -1,6 +1,6 @@
 use Rattle.std.proofs.Common.{◌≡◌, ◌++◌, ◌∷◌, [], subst}
 use Rattle.std.specs.Prelude.{OnOk}
-use Rattle.xq_regions.specs.Rows.{Row}
+use Rattle.xq_trees.specs.Rows.{Row}
 use Rattle.xq_build.proofs.Contents.{row_of_parts}
 use Rattle.xq_build.proofs.content.append_row.Goals as goal
 

@@ -1,9 +1,9 @@
 use Rattle.std.proofs.Common.{sym, subst, List, map}
-use Rattle.xq_regions.specs.Items.{item_view}
-use Rattle.xq_regions.specs.Levels.{flat}
+use Rattle.xq_trees.specs.Items.{item_view}
+use Rattle.xq_trees.specs.Levels.{flat}
 use Rattle.xq_meaning.specs.Content.{content}
 use Rattle.xq_meaning.specs.Readings.{items_at}
-use Rattle.xq_copies.specs.Leaves.{Leaf}
+use Rattle.xq_build.specs.private.Leaves.{Leaf}
 use Rattle.xq_build.specs.private.Surplus.{StandsFor}
 use Rattle.xq_build.proofs.Surpluses.{content_stands}
 use Rattle.xq_build.proofs.content.content.Goals as goal

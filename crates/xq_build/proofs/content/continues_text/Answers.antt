@@ -1,8 +1,8 @@
 use Rattle.std.proofs.Common.{◌≡◌, ◌∙◌, ◌-◌, true, false, length, ap, sym, arith}
 use Rattle.std.proofs.lemmas.Bool.Decides.{nat_tests}
 use Rattle.std.proofs.lemmas.List.{nil_from_length}
-use Rattle.xq_regions.specs.Rows.{Row}
-use Rattle.xq_regions.specs.Levels.{flat}
+use Rattle.xq_trees.specs.Rows.{Row}
+use Rattle.xq_trees.specs.Levels.{flat}
 use Rattle.xq_build.proofs.Contents.{none_before, no_text_after, tells_by_last, last_place, last_nameless}
 use Rattle.xq_build.proofs.content.continues_text.Goals as goal
 

@@ -2,9 +2,9 @@ use Rattle.std.proofs.Common.{◌≡◌, ◌∙◌, List, map, ap, arith, drop, 
 use Rattle.std.specs.Prelude.{string_bytes}
 use Rattle.std.specs.Option.{option_map}
 use Rattle.std.proofs.lemmas.List.{drop_all}
-use Rattle.xq_regions.specs.declared.items.Item.{Item}
-use Rattle.xq_regions.specs.Items.{item_view}
-use Rattle.xq_regions.specs.Levels.{flat}
+use Rattle.xq_trees.specs.declared.items.Item.{Item}
+use Rattle.xq_trees.specs.Items.{item_view}
+use Rattle.xq_trees.specs.Levels.{flat}
 use Rattle.xq_meaning.specs.Readings.{items_at}
 use Rattle.xq_build.specs.private.Surplus.{is_full, AreSeen}
 use Rattle.xq_build.proofs.Surpluses.{Next, alike_then, flattened_all, item_next}

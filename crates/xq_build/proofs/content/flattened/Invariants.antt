@@ -1,8 +1,8 @@
 use Rattle.std.proofs.Common.{◌≡◌, map, drop, true}
 use Rattle.std.specs.Prelude.{string_bytes, None, []}
 use Rattle.std.specs.Option.{option_map}
-use Rattle.xq_regions.specs.Items.{item_view}
-use Rattle.xq_regions.specs.Levels.{flat}
+use Rattle.xq_trees.specs.Items.{item_view}
+use Rattle.xq_trees.specs.Levels.{flat}
 use Rattle.xq_meaning.specs.Readings.{items_at}
 use Rattle.xq_build.specs.private.Content.{so_far, flattened_with, Childless}
 use Rattle.xq_build.specs.private.Surplus.{Alike, AreSeen, is_full}

@@ -1,7 +1,7 @@
 use Rattle.std.proofs.Common.{◌∙◌, ◌+◌, ◌++◌, List, ap, sym, map, subst, take, arith}
 use Rattle.std.proofs.lemmas.List.{take_all}
-use Rattle.xq_regions.specs.Rows.{Row}
-use Rattle.xq_regions.specs.Levels.{flat}
+use Rattle.xq_trees.specs.Rows.{Row}
+use Rattle.xq_trees.specs.Levels.{flat}
 use Rattle.xq_build.specs.private.Content.{merged_leaves, AreApart}
 use Rattle.xq_build.proofs.Contents.{row_more, merged_next, merged_all}
 use Rattle.xq_build.proofs.content.merged.Goals as goal

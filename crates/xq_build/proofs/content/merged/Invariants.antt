@@ -1,6 +1,6 @@
 use Rattle.std.proofs.Common.{◌≡◌, ◌++◌, List, map, take}
-use Rattle.xq_regions.specs.Levels.{flat}
-use Rattle.xq_copies.specs.Leaves.{Leaf}
+use Rattle.xq_trees.specs.Levels.{flat}
+use Rattle.xq_build.specs.private.Leaves.{Leaf}
 use Rattle.xq_build.specs.private.Content.{merged_leaves, AreApart}
 use Rattle.xq_build.proofs.content.merged.Given as goal
 

@@ -1,9 +1,9 @@
 use Rattle.std.proofs.Common.{map, subst, sym}
 use Rattle.std.specs.Prelude.{string_bytes, None}
 use Rattle.std.specs.Option.{option_map}
-use Rattle.xq_regions.specs.declared.items.Item.{Item}
-use Rattle.xq_regions.specs.Items.{item_view}
-use Rattle.xq_regions.specs.Levels.{flat}
+use Rattle.xq_trees.specs.declared.items.Item.{Item}
+use Rattle.xq_trees.specs.Items.{item_view}
+use Rattle.xq_trees.specs.Levels.{flat}
 use Rattle.xq_meaning.specs.Readings.{item_at}
 use Rattle.xq_build.specs.private.Surplus.{Takes}
 use Rattle.xq_build.proofs.Surpluses.{seen_later, took_node, took_short}

@@ -1,6 +1,6 @@
 use Rattle.std.proofs.Common.{◌≡◌, map, take}
 use Rattle.std.specs.Prelude.{filter}
-use Rattle.xq_regions.specs.Levels.{flat}
+use Rattle.xq_trees.specs.Levels.{flat}
 use Rattle.xq_build.specs.private.Content.{is_kept}
 use Rattle.xq_build.proofs.content.without_empty_texts.Given as goal
 

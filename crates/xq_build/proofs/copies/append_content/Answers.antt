@@ -1,9 +1,9 @@
 use Rattle.std.proofs.Common.{◌≡◌, ◌∙◌, ◌+◌, ℕ, ap, sym, List, map, ◌++◌, arith}
-use Rattle.xq_regions.specs.Tree.{Tree}
-use Rattle.xq_regions.specs.Levels.{flat}
+use Rattle.xq_trees.specs.Tree.{Tree}
+use Rattle.xq_trees.specs.Levels.{flat}
 use Rattle.xq_sources.specs.Sources.{tree_at}
-use Rattle.xq_copies.specs.Leaves.{Leaf, IsShapeOf, lowered, leaves_between}
-use Rattle.xq_copies.proofs.Subtrees.{document_leaves, whole_copied}
+use Rattle.xq_build.specs.private.Leaves.{Leaf, IsShapeOf, lowered, leaves_between}
+use Rattle.xq_build.proofs.Subtrees.{document_leaves, whole_copied}
 use Rattle.xq_build.proofs.Contents.{childless_node}
 use Rattle.xq_build.proofs.copies.append_content.Goals as goal
 

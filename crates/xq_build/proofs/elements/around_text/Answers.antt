@@ -1,6 +1,6 @@
 use Rattle.std.proofs.Common.{◌++◌, ◌∷◌, [], List, Ok, ap, sym, ◌∙◌}
-use Rattle.xq_regions.specs.Rows.{Row}
-use Rattle.xq_regions.specs.declared.Kind.TheVariants as kind
+use Rattle.xq_trees.specs.Rows.{Row}
+use Rattle.xq_trees.specs.declared.Kind.TheVariants as kind
 use Rattle.xq_packed.specs.Packed.{row}
 use Rattle.xq_build.proofs.Lone.{lone_levels}
 use Rattle.xq_build.proofs.elements.around_text.Goals as goal

@@ -1,5 +1,5 @@
 use Rattle.std.proofs.Common.{◌≡◌, map, drop}
-use Rattle.xq_regions.specs.Levels.{flat}
+use Rattle.xq_trees.specs.Levels.{flat}
 use Rattle.xq_build.specs.private.Content.{are_low}
 use Rattle.xq_build.proofs.judging.are_low.Given as goal
 

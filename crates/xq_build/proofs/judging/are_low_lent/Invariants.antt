@@ -1,5 +1,5 @@
 use Rattle.std.proofs.Common.{◌≡◌, map, drop}
-use Rattle.xq_copies.specs.Leaves.{leaf}
+use Rattle.xq_build.specs.private.Leaves.{leaf}
 use Rattle.xq_build.specs.private.Content.{are_low}
 use Rattle.xq_build.proofs.judging.are_low_lent.Given as goal
 

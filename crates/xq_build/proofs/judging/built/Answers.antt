@@ -2,10 +2,10 @@ use Rattle.std.proofs.Common.{◌∙◌, [], sym, map, subst, refl, length, arit
 use Rattle.std.proofs.lemmas.Result.{err_from_is_err_and}
 use Rattle.std.proofs.lemmas.List.{length-map}
 use Rattle.std.specs.Prelude.{Err}
-use Rattle.xq_regions.specs.Levels.{flat}
+use Rattle.xq_trees.specs.Levels.{flat}
 use Rattle.xq_meaning.specs.Content.{label}
-use Rattle.xq_copies.specs.Leaves.{leaves}
-use Rattle.xq_attributes.specs.Attributes.{JudgedAs}
+use Rattle.xq_build.specs.private.Leaves.{leaves}
+use Rattle.xq_build.specs.private.Attributes.{JudgedAs}
 use Rattle.xq_build.proofs.Contents.{rooted}
 use Rattle.xq_build.proofs.Judges.{built_refused, built_high, built_large, built_whole}
 use Rattle.xq_build.proofs.judging.built.Goals as goal

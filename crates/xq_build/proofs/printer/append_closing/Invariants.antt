@@ -1,5 +1,5 @@
 use Rattle.std.proofs.Common.{◌≡◌, ◌≤◌, length, string_bytes, ◌++◌}
-use Rattle.xq_regions.specs.Printing.{closing}
+use Rattle.xq_trees.specs.Printing.{closing}
 use Rattle.xq_build.proofs.printer.append_closing.Given as goal
 
 abbrev pub invariant-loop-close : goal.invariant-loop-close

@@ -1,10 +1,10 @@
 use Rattle.std.proofs.Common.{◌≡◌, ◌∙◌, ◌++◌, ◌+◌, ◌-◌, ◌≤◌, List, length, ap, sym, arith, map, string_bytes}
 use Rattle.std.proofs.lemmas.Result.{err_from_is_err_and}
-use Rattle.xq_regions.specs.Printing.{text_from}
+use Rattle.xq_trees.specs.Printing.{text_from}
 use Rattle.xq_sources.specs.Meters.{Readings}
 use Rattle.xq_sources.specs.Sources.{tree_at}
-use Rattle.xq_copies.specs.Leaves.{Leaf, lowered}
-use Rattle.xq_copies.proofs.Subtrees.{none_left, none_lent, lent_run, run_splits}
+use Rattle.xq_build.specs.private.Leaves.{Leaf, lowered}
+use Rattle.xq_build.proofs.Subtrees.{none_left, none_lent, lent_run, run_splits}
 use Rattle.xq_build.proofs.Counted.{run_counted}
 use Rattle.xq_build.proofs.Written.{appended, nodes_next, nodes_refused}
 use Rattle.xq_build.proofs.printer.append_nodes.Goals as goal

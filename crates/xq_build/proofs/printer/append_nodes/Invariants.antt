@@ -1,7 +1,7 @@
 use Rattle.std.proofs.Common.{◌≡◌, ◌≤◌, ◌++◌, ◌+◌, ◌-◌, suc, length, string_bytes, map}
-use Rattle.xq_regions.specs.Printing.{text_from}
+use Rattle.xq_trees.specs.Printing.{text_from}
 use Rattle.xq_sources.specs.Sources.{tree_at}
-use Rattle.xq_copies.specs.Leaves.{lowered, leaves_between}
+use Rattle.xq_build.specs.private.Leaves.{lowered, leaves_between}
 use Rattle.xq_build.proofs.printer.append_nodes.Given as goal
 
 -- what was written and what is left are the whole, and no row was counted twice

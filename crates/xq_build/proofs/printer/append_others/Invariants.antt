@@ -1,6 +1,6 @@
 use Rattle.std.specs.Prelude.{sum_by}
 use Rattle.std.proofs.Common.{◌≡◌, ◌≤◌, ◌++◌, ◌+◌, length, string_bytes, map, drop}
-use Rattle.xq_regions.specs.Items.{item_view}
+use Rattle.xq_trees.specs.Items.{item_view}
 use Rattle.xq_meaning.specs.Readings.{items_at}
 use Rattle.xq_build.specs.Reads.{rows_below, own_rows}
 use Rattle.xq_build.specs.private.Writing.{each_after_comma}

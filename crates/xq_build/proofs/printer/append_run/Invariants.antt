@@ -1,6 +1,6 @@
 use Rattle.std.proofs.Common.{◌≡◌, ◌≤◌, ◌++◌, List, length, string_bytes, map, drop}
-use Rattle.xq_regions.specs.Printing.{text_from}
-use Rattle.xq_copies.specs.Leaves.{Leaf, leaf, lowered}
+use Rattle.xq_trees.specs.Printing.{text_from}
+use Rattle.xq_build.specs.private.Leaves.{Leaf, leaf, lowered}
 use Rattle.xq_build.proofs.printer.append_run.Given as goal
 
 -- what was written and what is left are the whole

@@ -1,5 +1,5 @@
 use Rattle.std.proofs.Common.{◌≡◌, ◌∙◌, sym, arith, map, false, refl}
-use Rattle.xq_regions.specs.Levels.{flat}
+use Rattle.xq_trees.specs.Levels.{flat}
 use Rattle.xq_build.specs.private.Content.{are_low}
 use Rattle.xq_build.specs.private.Surplus.{copy_of}
 use Rattle.xq_build.proofs.Contents.{leaf_added}

@@ -1,7 +1,7 @@
 use Rattle.std.proofs.Common.{◌∙◌, sym, map}
-use Rattle.xq_regions.specs.Levels.{flat}
+use Rattle.xq_trees.specs.Levels.{flat}
 use Rattle.xq_build.proofs.Contents.{childless_node}
-use Rattle.xq_copies.proofs.Subtrees.{whole_copied}
+use Rattle.xq_build.proofs.Subtrees.{whole_copied}
 use Rattle.xq_build.proofs.Surpluses.{no_document, short_along, short_attribute, short_document}
 use Rattle.xq_build.proofs.surplus.append_judged.Goals as goal
 

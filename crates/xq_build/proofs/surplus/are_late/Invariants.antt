@@ -1,6 +1,6 @@
 use Rattle.std.proofs.Common.{◌≡◌, map, drop}
 use Rattle.std.specs.List.{list_any}
-use Rattle.xq_regions.specs.Levels.{flat}
+use Rattle.xq_trees.specs.Levels.{flat}
 use Rattle.xq_build.specs.private.Surplus.{is_late}
 use Rattle.xq_build.proofs.surplus.are_late.Given as goal
 

@@ -1,7 +1,7 @@
 use Rattle.std.proofs.Common.{◌≡◌, ◌∙◌, ◌+◌, ◌-◌, ◌≤◌, length, ap, sym, arith}
 use Rattle.xq_sources.specs.Sources.{tree_at}
 use Rattle.xq_build.specs.private.Content.{are_low}
-use Rattle.xq_copies.proofs.Subtrees.{none_left, lent_run, run_splits}
+use Rattle.xq_build.proofs.Subtrees.{none_left, lent_run, run_splits}
 use Rattle.xq_build.proofs.Surpluses.{run_high, run_low}
 use Rattle.xq_build.proofs.surplus.are_low_between.Goals as goal
 

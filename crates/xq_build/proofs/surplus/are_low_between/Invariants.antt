@@ -1,6 +1,6 @@
 use Rattle.std.proofs.Common.{◌≡◌, ◌-◌, suc}
 use Rattle.xq_sources.specs.Sources.{tree_at}
-use Rattle.xq_copies.specs.Leaves.{leaves_between}
+use Rattle.xq_build.specs.private.Leaves.{leaves_between}
 use Rattle.xq_build.specs.private.Content.{are_low}
 use Rattle.xq_build.proofs.surplus.are_low_between.Given as goal
 

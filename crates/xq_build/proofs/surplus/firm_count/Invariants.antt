@@ -1,5 +1,5 @@
 use Rattle.std.proofs.Common.{◌≡◌, ◌≤◌, map, take}
-use Rattle.xq_regions.specs.Levels.{flat}
+use Rattle.xq_trees.specs.Levels.{flat}
 use Rattle.xq_build.specs.private.Surplus.{firm_count}
 use Rattle.xq_build.proofs.surplus.firm_count.Given as goal
 

@@ -1,7 +1,7 @@
 use Rattle.std.proofs.Common.{Bor, map, arith}
 use Rattle.xq_atoms.specs.declared.atoms.Atom.{Atom}
 use Rattle.xq_atoms.specs.Atom.{atomic_of}
-use Rattle.xq_regions.specs.Items.{item_view}
+use Rattle.xq_trees.specs.Items.{item_view}
 use Rattle.xq_eval.proofs.AtHand.{atom_there}
 use Rattle.xq_eval.proofs.at_hand.atom_in.Goals as goal
 

@@ -1,13 +1,13 @@
 use Rattle.std.proofs.Common.{◌≡◌, List, Ok, map, ap, ◌∙◌, sym, arith}
 use Rattle.xq_atoms.specs.Atom.{atomic_of}
 use Rattle.xq_atoms.specs.declared.atoms.Atom.{Atom}
-use Rattle.xq_regions.specs.Tree.{Tree}
+use Rattle.xq_trees.specs.Tree.{Tree}
 use Rattle.xq_tuples.specs.Views.{values_of}
 use Rattle.xq_meaning.specs.declared.plans.Plan.TheVariants as plan
 use Rattle.xq_meaning.specs.Arguments.{atomic}
 use Rattle.xq_meaning.specs.Forms as Forms
 use Rattle.xq_meaning.specs.PlanMeaning.{Frame, plan_mean}
-use Rattle.xq_forms.specs.Views.{tuple_at}
+use Rattle.xq_operators.specs.Views.{tuple_at}
 use Rattle.xq_eval.specs.private.AtHand.{Gives}
 use Rattle.xq_eval.proofs.Counted.{given_so, only_one}
 use Rattle.xq_eval.proofs.Picking.{picked_alone}

@@ -1,6 +1,6 @@
 use Rattle.std.proofs.Common.{◌≡◌, ◌++◌, ◌+◌, ◌∷◌, [], take, drop, length, map, ap, ◌∙◌, sym, subst, arith, get_or}
 use Rattle.std.proofs.lemmas.List.{map-append, length-map, take-map}
-use Rattle.xq_regions.specs.Items.{item_view, item_views}
+use Rattle.xq_trees.specs.Items.{item_view, item_views}
 use Rattle.xq_tuples.specs.Views.{slot_items, values_of}
 use Rattle.xq_eval.specs.private.Bindings.{values_left, stack_of, Falls}
 use Rattle.xq_eval.proofs.NextValues.{next_left}

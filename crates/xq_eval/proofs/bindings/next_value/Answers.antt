@@ -1,6 +1,6 @@
 use Rattle.std.proofs.Common.{◌≡◌, ◌++◌, ◌+◌, ◌∷◌, [], drop, length, map, ap, ◌∙◌, subst, arith}
 use Rattle.std.proofs.lemmas.List.{map-append, length-map, drop_all, drop-drop}
-use Rattle.xq_regions.specs.Items.{item_view, item_views}
+use Rattle.xq_trees.specs.Items.{item_view, item_views}
 use Rattle.xq_eval.specs.private.Bindings.{values_left, stack_of, Falls, stays, falls}
 use Rattle.xq_eval.proofs.bindings.next_value.Goals as goal
 

@@ -1,5 +1,5 @@
 use Rattle.std.proofs.Common.{◌≤◌, vec_len, drop}
-use Rattle.xq_regions.specs.Items.{item_views}
+use Rattle.xq_trees.specs.Items.{item_views}
 use Rattle.xq_eval.specs.private.Bindings.{stack_of, Falls}
 use Rattle.xq_eval.proofs.bindings.next_value.Given as goal
 

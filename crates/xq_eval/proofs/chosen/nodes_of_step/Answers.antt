@@ -1,6 +1,6 @@
 use Rattle.std.proofs.Common.{◌≡◌, refl, sym, subst}
-use Rattle.xq_regions.specs.declared.Axis.TheVariants.{Child}
-use Rattle.xq_forms.specs.Views.{frame_at, on_axis, first_on_axis, last_on_axis}
+use Rattle.xq_trees.specs.declared.Axis.TheVariants.{Child}
+use Rattle.xq_operators.specs.Views.{frame_at, on_axis, first_on_axis, last_on_axis}
 use Rattle.xq_meaning.specs.Doing.{go_on}
 use Rattle.xq_eval.specs.private.Choosing.{chosen}
 use Rattle.xq_eval.proofs.Choosing.{keeps_first, keeps_last}

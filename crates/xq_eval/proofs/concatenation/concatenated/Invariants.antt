@@ -1,9 +1,9 @@
 use Rattle.std.proofs.Common.{◌≡◌, List}
 use Rattle.std.specs.Prelude.{string_bytes}
-use Rattle.xq_regions.specs.Tree.{Tree}
+use Rattle.xq_trees.specs.Tree.{Tree}
 use Rattle.xq_tuples.specs.Views.{values_of}
 use Rattle.xq_meaning.specs.PlanMeaning.{Frame}
-use Rattle.xq_forms.specs.Views.{tuple_at}
+use Rattle.xq_operators.specs.Views.{tuple_at}
 use Rattle.xq_eval.proofs.Pieces.{Pieces}
 use Rattle.xq_eval.proofs.concatenation.concatenated.Given as goal
 

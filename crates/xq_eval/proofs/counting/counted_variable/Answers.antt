@@ -1,6 +1,6 @@
 use Rattle.std.proofs.Common.{◌≡◌, [], ◌∷◌, map, ap, sym, ◌∙◌, arith}
-use Rattle.xq_regions.specs.Items.{item_view}
-use Rattle.xq_regions.specs.Tuples.{value_at}
+use Rattle.xq_trees.specs.Items.{item_view}
+use Rattle.xq_trees.specs.Tuples.{value_at}
 use Rattle.xq_meaning.specs.Functions.{of_one}
 use Rattle.xq_meaning.specs.Readings.{items_at}
 use Rattle.xq_meaning.specs.Forms as Forms

@@ -1,6 +1,6 @@
 use Rattle.std.proofs.Common.{◌≡◌, ◌+◌, ◌*◌, List, map, drop}
 use Rattle.xq_atoms.specs.Atom.{Integer}
-use Rattle.xq_regions.specs.Tree.{Tree}
+use Rattle.xq_trees.specs.Tree.{Tree}
 use Rattle.xq_tuples.specs.Views.{values_of}
 use Rattle.xq_meaning.specs.declared.operators.Operator.{Operator}
 use Rattle.xq_meaning.specs.declared.plans.Plan.{Plan, size-Plan}
@@ -8,7 +8,7 @@ use Rattle.xq_meaning.specs.Forms as Forms
 use Rattle.xq_meaning.specs.PlanMeaning.{Frame, plan_mean}
 use denote.Param.Weighed.{most}
 use Prim.Native.Nat.{max}
-use Rattle.xq_forms.specs.Views.{tuple_at}
+use Rattle.xq_operators.specs.Views.{tuple_at}
 use Rattle.xq_eval.proofs.AtHand.{left_of}
 use Rattle.xq_eval.proofs.integers.+integers.Given as goal
 

@@ -1,6 +1,6 @@
 use Rattle.std.proofs.Common.{map, arith}
 use Rattle.xq_atoms.specs.Atom.{Integer}
-use Rattle.xq_regions.specs.Items.{item_view}
+use Rattle.xq_trees.specs.Items.{item_view}
 use Rattle.xq_eval.proofs.AtHand.{atom_there}
 use Rattle.xq_eval.proofs.integers.integer_in.Goals as goal
 

@@ -7,9 +7,9 @@ use Rattle.xq_meaning.specs.PlanMeaning.{plan_mean}
 use Rattle.xq_meaning.specs.Steps.{focuses_from}
 use Rattle.xq_eval.proofs.Loops.{handed_on}
 use Rattle.std.proofs.lemmas.List.{length-map, drop_all}
-use Rattle.xq_regions.specs.Items.{item_view, item_views}
+use Rattle.xq_trees.specs.Items.{item_view, item_views}
 use Rattle.xq_meaning.specs.Readings.{item_at, items_at, AreIn, IsIn}
-use Rattle.xq_forms.proofs.Lists.{all_at}
+use Rattle.xq_operators.proofs.Lists.{all_at}
 use Rattle.xq_eval.proofs.PositionalPredicates.{kept_next, kept_stops}
 use Rattle.xq_eval.proofs.positions.keep_positional.Goals as goal
 

@@ -1,6 +1,6 @@
 use Rattle.std.proofs.Common.{◌≡◌, List, map, drop, suc, length}
-use Rattle.xq_regions.specs.Items.{item_view, item_views}
-use Rattle.xq_regions.specs.Tree.{Tree}
+use Rattle.xq_trees.specs.Items.{item_view, item_views}
+use Rattle.xq_trees.specs.Tree.{Tree}
 use Rattle.xq_meaning.specs.declared.plans.Plan.{Plan}
 use Rattle.xq_meaning.specs.Doing.{in_turn, more}
 use Rattle.xq_meaning.specs.Forms as Forms

@@ -1,5 +1,5 @@
 use Rattle.std.proofs.Common.{map, ap, sym, ◌∙◌}
-use Rattle.xq_regions.specs.Items.{item_view}
+use Rattle.xq_trees.specs.Items.{item_view}
 use Rattle.xq_meaning.specs.Operators as Operators
 use Rattle.xq_meaning.specs.Readings.{items_at}
 use Rattle.xq_eval.specs.private.Positions.{value_there}

@@ -1,6 +1,6 @@
 use Rattle.std.proofs.Common.{◌≡◌, ◌∷◌, [], length, to_z, w64, pos, ap, ◌∙◌, rules}
 use Rattle.xq_atoms.specs.Atom.{Integer}
-use Rattle.xq_regions.specs.Items.{Value}
+use Rattle.xq_trees.specs.Items.{Value}
 use Rattle.xq_expressions.specs.declared.signatures.Function.TheVariants.{Last}
 use Rattle.xq_meaning.specs.declared.plans.Plan.TheVariants as plan_of
 use Rattle.xq_eval.proofs.PositionalPredicates.{same_last}

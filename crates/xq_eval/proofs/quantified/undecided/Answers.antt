@@ -1,10 +1,10 @@
 use Rattle.std.proofs.Common.{◌≡◌, ◌∙◌, ap, sym, subst, map, rules, not, Bool, Ok}
 use Rattle.std.specs.Prelude.{IfSome}
-use Rattle.xq_regions.specs.Items.{item_view, item_views}
+use Rattle.xq_trees.specs.Items.{item_view, item_views}
 use Rattle.xq_tuples.specs.Views.{values_of}
 use Rattle.xq_meaning.specs.PlanMeaning.{Frame}
 use Rattle.xq_meaning.specs.Readings.{items_at, AreIn}
-use Rattle.xq_forms.specs.Views.{tuple_at}
+use Rattle.xq_operators.specs.Views.{tuple_at}
 use Rattle.xq_joins.specs.Keyed.{first_with}
 use Rattle.xq_eval.proofs.quantified.undecided.Goals as goal
 

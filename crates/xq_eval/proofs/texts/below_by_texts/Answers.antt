@@ -1,9 +1,9 @@
 use Rattle.std.proofs.Common.{◌≡◌, ◌∷◌, [], ap, sym, subst, map, List, Ok, Err, arith}
 use Rattle.std.specs.Prelude.{IfSome}
-use Rattle.xq_regions.specs.declared.Axis.TheVariants.{Child, DescendantOrSelf}
+use Rattle.xq_trees.specs.declared.Axis.TheVariants.{Child, DescendantOrSelf}
 use Rattle.xq_meaning.specs.declared.node_tests.Test.TheVariants.{Any}
-use Rattle.xq_regions.specs.Items.{item_view}
-use Rattle.xq_regions.specs.Tree.{Tree}
+use Rattle.xq_trees.specs.Items.{item_view}
+use Rattle.xq_trees.specs.Tree.{Tree}
 use Rattle.xq_meaning.specs.declared.plans.Plan.TheVariants as plan
 use Rattle.xq_meaning.specs.declared.plans.PlanStep.TheVariants as plan_step
 use Rattle.xq_tuples.specs.Views.{values_of}
@@ -12,8 +12,8 @@ use Rattle.xq_meaning.specs.Forms as Forms
 use Rattle.xq_meaning.specs.Items.{Item}
 use Rattle.xq_meaning.specs.PlanMeaning.{plan_mean, plan_step_mean}
 use Rattle.xq_meaning.specs.Readings.{items_at, AreIn}
-use Rattle.xq_forms.specs.Views.{after_double_slash, tuple_at, GivesSequence}
-use Rattle.xq_forms.proofs.Growth.{goes_on_to}
+use Rattle.xq_operators.specs.Views.{after_double_slash, tuple_at, GivesSequence}
+use Rattle.xq_operators.proofs.Growth.{goes_on_to}
 use Rattle.xq_joins.specs.Equalities.{leads_to_text}
 use Rattle.xq_joins.specs.declared.keyed.KeyedTest.{KeyedTest}
 use Rattle.xq_joins.specs.Keyed.{leads_to_key, IsKeyedTest}

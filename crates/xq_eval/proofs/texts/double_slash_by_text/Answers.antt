@@ -1,12 +1,12 @@
 use Rattle.std.proofs.Common.{◌≡◌, ◌∙◌, refl, ap, sym, subst, map, List}
 use Rattle.std.specs.Prelude.{filter}
-use Rattle.xq_regions.specs.Items.{item_view, item_views}
+use Rattle.xq_trees.specs.Items.{item_view, item_views}
 use Rattle.xq_meaning.specs.Forms as Forms
 use Rattle.xq_meaning.specs.Items.{Item}
 use Rattle.xq_meaning.specs.PlanMeaning.{plan_mean}
 use Rattle.xq_meaning.specs.Readings.{items_at, AreIn}
-use Rattle.xq_forms.specs.Views.{after_double_slash}
-use Rattle.xq_forms.proofs.Growth.{goes_on_to}
+use Rattle.xq_operators.specs.Views.{after_double_slash}
+use Rattle.xq_operators.proofs.Growth.{goes_on_to}
 use Rattle.xq_joins.specs.Equalities.{leads_to_text, passes_text}
 use Rattle.xq_eval.proofs.Loops.{cut}
 use Rattle.xq_eval.proofs.Steps.{same_goes}

@@ -3,8 +3,8 @@ use Rattle.std.proofs.lemmas.Int.{ints}
 use Rattle.std.proofs.lemmas.List.{map_push}
 use Rattle.xq_atoms.specs.Atom.{Integer}
 use Rattle.xq_atoms.specs.declared.atoms.Atom.TheVariants.{Int}
-use Rattle.xq_regions.specs.declared.items.Item.TheVariants.{Atom as AtomItem}
-use Rattle.xq_regions.specs.Items.{Value, item_view}
+use Rattle.xq_trees.specs.declared.items.Item.TheVariants.{Atom as AtomItem}
+use Rattle.xq_trees.specs.Items.{Value, item_view}
 use Rattle.xq_meaning.specs.Readings.{item_at, items_at}
 use Rattle.xq_meaning.specs.Items.{Atom}
 use Rattle.xq_meaning.specs.Operators.{integers_from, how_many}

@@ -1,5 +1,5 @@
 use Rattle.std.proofs.Common.{◌≡◌, List}
-use Rattle.xq_regions.specs.Tree.{Tree}
+use Rattle.xq_trees.specs.Tree.{Tree}
 use Rattle.xq_meaning.specs.Operators.{integers_from}
 use Rattle.xq_functions.specs.Answers.{items_of}
 use Rattle.xq_functions.proofs.arithmetic.integers.Given as goal

@@ -1,6 +1,6 @@
 use Rattle.std.proofs.Common.{map, take}
 use Rattle.xq_atoms.specs.Compare.{key_of}
-use Rattle.xq_regions.specs.Items.{item_views}
+use Rattle.xq_trees.specs.Items.{item_views}
 use Rattle.xq_functions.specs.Answers.{atomics}
 use Rattle.xq_functions.specs.private.Running.{Distinct}
 use Rattle.xq_functions.proofs.distinct.distinct_atoms.Given as goal

@@ -4,8 +4,8 @@ use Rattle.std.specs.List.{list_any}
 use Rattle.std.proofs.lemmas.List.{map_push}
 use Rattle.xq_atoms.specs.Atom.{atomic_of}
 use Rattle.xq_atoms.specs.Compare.{Characters, key, key_eq}
-use Rattle.xq_regions.specs.declared.items.Item.TheVariants.{Atom}
-use Rattle.xq_regions.specs.Items.{Value, item_view, item_views}
+use Rattle.xq_trees.specs.declared.items.Item.TheVariants.{Atom}
+use Rattle.xq_trees.specs.Items.{Value, item_view, item_views}
 use Rattle.xq_functions.specs.Answers.{atomics}
 use Rattle.xq_functions.specs.private.Running.{Distinct}
 use Rattle.xq_functions.proofs.ListLemmas.{to_here}

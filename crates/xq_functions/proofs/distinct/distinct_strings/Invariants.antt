@@ -1,5 +1,5 @@
 use Rattle.std.proofs.Common.{take}
-use Rattle.xq_regions.specs.Items.{item_views}
+use Rattle.xq_trees.specs.Items.{item_views}
 use Rattle.xq_functions.specs.Answers.{atomics}
 use Rattle.xq_functions.specs.private.Running.{Distinct}
 use Rattle.xq_functions.proofs.DistinctLemmas.{keys_of_strings}

@@ -2,9 +2,9 @@ use Rattle.std.proofs.Common.{◌≡◌, ℕ, ◌++◌, ◌∷◌, [], map, leng
 use Rattle.std.specs.List.{range_with_len}
 use Rattle.std.proofs.lemmas.List.{map_push, length-map}
 use Rattle.std.proofs.lemmas.List.FromFn.{map-range_with_len_more}
-use Rattle.xq_regions.specs.declared.items.Node.{Node as Spot}
-use Rattle.xq_regions.specs.declared.items.Item.TheVariants.{Node as NodeItem}
-use Rattle.xq_regions.specs.Items.{Place, item_view}
+use Rattle.xq_trees.specs.declared.items.Node.{Node as Spot}
+use Rattle.xq_trees.specs.declared.items.Item.TheVariants.{Node as NodeItem}
+use Rattle.xq_trees.specs.Items.{Place, item_view}
 use Rattle.xq_meaning.specs.Items.{Item, Node, root_of}
 use Rattle.xq_meaning.specs.Readings.{item_at, items_at}
 use Rattle.xq_functions.proofs.documents.collection.Goals as goal

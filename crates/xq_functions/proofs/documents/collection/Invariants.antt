@@ -1,6 +1,6 @@
 use Rattle.std.proofs.Common.{◌≡◌, List, map}
 use Rattle.std.specs.List.{range_with_len}
-use Rattle.xq_regions.specs.Tree.{Tree}
+use Rattle.xq_trees.specs.Tree.{Tree}
 use Rattle.xq_meaning.specs.Items.{Node, root_of}
 use Rattle.xq_functions.specs.Answers.{items_of}
 use Rattle.xq_functions.proofs.documents.collection.Given as goal

@@ -1,5 +1,5 @@
 use Rattle.std.proofs.Common.{map}
-use Rattle.xq_regions.specs.Items.{item_view}
+use Rattle.xq_trees.specs.Items.{item_view}
 use Rattle.xq_meaning.specs.Operators.{by_nodes}
 use Rattle.xq_functions.specs.Answers.{items_of, lent_items}
 use Rattle.xq_functions.specs.private.Nodes.{by_places}

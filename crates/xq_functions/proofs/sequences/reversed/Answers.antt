@@ -1,6 +1,6 @@
 use Rattle.std.proofs.Common.{map, ap, ◌∙◌}
 use Rattle.indexmap.proofs.ReorderLemmas.{map-reverse}
-use Rattle.xq_regions.specs.Items.{item_view}
+use Rattle.xq_trees.specs.Items.{item_view}
 use Rattle.xq_meaning.specs.Readings.{item_at, items_at}
 use Rattle.xq_functions.proofs.sequences.reversed.Goals as goal
 

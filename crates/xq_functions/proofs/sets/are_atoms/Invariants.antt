@@ -1,5 +1,5 @@
 use Rattle.std.proofs.Common.{◌≡◌, List, drop}
-use Rattle.xq_regions.specs.Tree.{Tree}
+use Rattle.xq_trees.specs.Tree.{Tree}
 use Rattle.xq_meaning.specs.Operators.{are_atoms}
 use Rattle.xq_functions.specs.Answers.{lent_items}
 use Rattle.xq_functions.proofs.sets.are_atoms.Given as goal

@@ -2,12 +2,12 @@ use Rattle.std.proofs.Common.{◌≡◌, Ok, Err, map, ap, sym, ◌∙◌, subst
 use Rattle.std.specs.Global.{Vec}
 use Rattle.xq_atoms.specs.declared.refusals.Fault.{Fault}
 use Rattle.xq_atoms.specs.declared.refusals.Code.TheVariants.{XPTY0018}
-use Rattle.xq_regions.specs.Items.{item_view, item_views}
+use Rattle.xq_trees.specs.Items.{item_view, item_views}
 use Rattle.xq_meaning.specs.Operators.{all_atoms, are_atoms}
 use Rattle.xq_meaning.specs.Readings.{items_at}
 use Rattle.xq_functions.specs.Answers.{lent_items}
 use Rattle.xq_atoms.specs.Answers.{Gives}
-use Rattle.xq_regions.specs.declared.items.Node.{Node as Spot}
+use Rattle.xq_trees.specs.declared.items.Node.{Node as Spot}
 use Rattle.xq_functions.specs.private.Places.{all_spots}
 use Rattle.xq_functions.proofs.SetLemmas.{gathered-nodes, gathered-others, nodes-in}
 use Rattle.xq_functions.proofs.sets.gather.Goals as goal

@@ -1,5 +1,5 @@
 use Rattle.std.proofs.Common.{◌≡◌, map, take}
-use Rattle.xq_regions.specs.Items.{item_views}
+use Rattle.xq_trees.specs.Items.{item_views}
 use Rattle.xq_functions.specs.private.Places as Places
 use Rattle.xq_functions.proofs.sets.nodes_at.Given as goal
 

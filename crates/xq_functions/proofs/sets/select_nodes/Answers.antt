@@ -1,10 +1,10 @@
 use Rattle.std.proofs.Common.{◌≡◌, Ok, Err, map, ap, sym, ◌∙◌, subst, rules}
 use Rattle.std.specs.Global.{Vec}
 use Rattle.xq_atoms.specs.Judged.{◌>>=◌}
-use Rattle.xq_regions.specs.Items.{item_view}
+use Rattle.xq_trees.specs.Items.{item_view}
 use Rattle.xq_meaning.specs.Operators.{from_nodes, in_order, set_of}
 use Rattle.xq_functions.specs.Answers.{items_of, lent_items}
-use Rattle.xq_regions.specs.declared.items.Node.{Node as Spot}
+use Rattle.xq_trees.specs.declared.items.Node.{Node as Spot}
 use Rattle.xq_functions.specs.private.Places.{place_at, selected}
 use Rattle.xq_functions.proofs.AnswerLemmas.{Gives-fault}
 use Rattle.xq_functions.proofs.SetLemmas.{InResult, select-spots, selected-in}

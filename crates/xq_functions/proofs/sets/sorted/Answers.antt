@@ -1,5 +1,5 @@
 use Rattle.xq_functions.specs.private.Places.{same_spot}
-use Rattle.xq_regions.proofs.Rising.{same_any}
+use Rattle.xq_trees.proofs.Rising.{same_any}
 use Rattle.xq_functions.proofs.sets.sorted.Goals as goal
 
 pub returns : goal.returns

@@ -1,5 +1,5 @@
 use Rattle.std.proofs.Common.{◌≡◌, map, drop}
-use Rattle.xq_regions.specs.Items.{item_view}
+use Rattle.xq_trees.specs.Items.{item_view}
 use Rattle.xq_functions.specs.private.Places as Places
 use Rattle.xq_functions.proofs.sets.spots_of.Given as goal
 

@@ -3,7 +3,7 @@ use Rattle.std.proofs.Common.{◌≡◌, ◌∷◌, [], ap, sym, subst, ◌∙�
 use Rattle.xq_atoms.specs.Atom.{atomic_of}
 use Rattle.xq_meaning.specs.declared.plans.Plan.TheVariants as plan
 use Rattle.xq_meaning.specs.Items.{atomized}
-use Rattle.xq_forms.specs.Views.{frame_at, nodes_in}
+use Rattle.xq_operators.specs.Views.{frame_at, nodes_in}
 use Rattle.xq_joins.proofs.Told.{step_places, call_atom, step_tells}
 use Rattle.xq_joins.proofs.atoms.atom_of.Goals as goal
 

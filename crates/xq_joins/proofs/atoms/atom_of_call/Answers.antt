@@ -1,7 +1,7 @@
 use Rattle.std.proofs.Common.{subst}
 use Rattle.xq_functions.specs.Answers.{TellsAtom}
 use Rattle.xq_meaning.specs.Functions.{of_one}
-use Rattle.xq_forms.specs.Views.{frame_at, nodes_in}
+use Rattle.xq_operators.specs.Views.{frame_at, nodes_in}
 use Rattle.xq_joins.proofs.Told.{step_places, call_tells}
 use Rattle.xq_joins.proofs.atoms.atom_of_call.Goals as goal
 

@@ -2,8 +2,8 @@ use Rattle.std.proofs.Common.{◌≡◌, ◌∙◌, ap, sym, subst, map, List, O
 use Rattle.std.specs.Prelude.{IfSome}
 use Rattle.std.proofs.lemmas.List.{length-map}
 use Rattle.std.specs.List.{AllByRecursion}
-use Rattle.xq_regions.specs.Items.{item_view}
-use Rattle.xq_regions.specs.Tree.{Tree}
+use Rattle.xq_trees.specs.Items.{item_view}
+use Rattle.xq_trees.specs.Tree.{Tree}
 use Rattle.xq_tuples.specs.Views.{slot_items, values_of}
 use Rattle.xq_meaning.specs.Readings.{AreIn}
 use Rattle.xq_joins.specs.Keyed.{passes_key}

@@ -1,9 +1,9 @@
 use Rattle.std.proofs.Common.{◌≡◌, ◌+◌, ◌∙◌, ap, sym, subst, arith, rules, map, drop, List, not}
 use Rattle.std.proofs.lemmas.List.{drop_all}
-use Rattle.xq_regions.specs.Items.{item_view}
-use Rattle.xq_regions.specs.Tree.{Tree}
+use Rattle.xq_trees.specs.Items.{item_view}
+use Rattle.xq_trees.specs.Tree.{Tree}
 use Rattle.xq_meaning.specs.Readings.{IsIn}
-use Rattle.xq_forms.proofs.Lists.{all_at}
+use Rattle.xq_operators.proofs.Lists.{all_at}
 use Rattle.xq_joins.specs.Keyed.{passes_key}
 use Rattle.xq_joins.specs.private.Keyed.{decided}
 use Rattle.xq_joins.proofs.Lists.{left_first}

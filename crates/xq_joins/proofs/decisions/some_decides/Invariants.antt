@@ -1,5 +1,5 @@
 use Rattle.std.proofs.Common.{◌≡◌, map, drop}
-use Rattle.xq_regions.specs.Items.{item_view}
+use Rattle.xq_trees.specs.Items.{item_view}
 use Rattle.xq_meaning.specs.Readings.{AreIn}
 use Rattle.xq_joins.specs.Keyed.{passes_key}
 use Rattle.xq_joins.specs.private.Keyed.{decided}

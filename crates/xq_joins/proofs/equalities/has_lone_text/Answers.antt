@@ -1,6 +1,6 @@
 use Rattle.std.proofs.Common.{◌≡◌, ◌∙◌, refl, sym, ap, subst, arith}
 use Rattle.xq_atoms.specs.Text.{text_eq}
-use Rattle.xq_regions.specs.Rows.{rows, row_at}
+use Rattle.xq_trees.specs.Rows.{rows, row_at}
 use Rattle.xq_sources.specs.Lent.{placed_lent}
 use Rattle.xq_sources.specs.Sources.{tree_at}
 use Rattle.xq_axes.proofs.Sizes.{one_row, leaf_value}

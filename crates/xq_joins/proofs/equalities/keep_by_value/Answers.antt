@@ -2,7 +2,7 @@ use Rattle.std.proofs.Common.{◌≡◌, ◌∙◌, map, IfSome}
 use Rattle.std.specs.Prelude.{filter}
 use Rattle.std.proofs.lemmas.Option.{IfSome_then}
 use Rattle.std.proofs.lemmas.Result.{IfOk-weaker}
-use Rattle.xq_regions.specs.Items.{item_view, item_views}
+use Rattle.xq_trees.specs.Items.{item_view, item_views}
 use Rattle.xq_axes.specs.Owners.{has_valued}
 use Rattle.xq_joins.specs.Equalities.{passes_text}
 use Rattle.xq_joins.proofs.Valued.{valued_pass}

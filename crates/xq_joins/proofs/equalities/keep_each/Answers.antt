@@ -1,10 +1,10 @@
 use Rattle.std.proofs.Common.{◌≡◌, ◌+◌, ◌++◌, ◌∙◌, refl, ap, sym, subst, arith, map, drop, List}
 use Rattle.std.specs.Prelude.{filter}
 use Rattle.std.proofs.lemmas.List.{drop_all, append-nil}
-use Rattle.xq_regions.specs.Items.{item_view, item_views}
-use Rattle.xq_regions.specs.Tree.{Tree}
+use Rattle.xq_trees.specs.Items.{item_view, item_views}
+use Rattle.xq_trees.specs.Tree.{Tree}
 use Rattle.xq_meaning.specs.Readings.{IsIn}
-use Rattle.xq_forms.proofs.Lists.{all_at}
+use Rattle.xq_operators.proofs.Lists.{all_at}
 use Rattle.xq_joins.specs.Equalities.{passes_text}
 use Rattle.xq_joins.proofs.TextTests.{kept_next}
 use Rattle.xq_joins.proofs.Lists.{left_first}

@@ -1,6 +1,6 @@
 use Rattle.std.proofs.Common.{◌≡◌, ◌++◌, map, drop}
 use Rattle.std.specs.Prelude.{filter}
-use Rattle.xq_regions.specs.Items.{item_view, item_views}
+use Rattle.xq_trees.specs.Items.{item_view, item_views}
 use Rattle.xq_meaning.specs.Readings.{AreIn}
 use Rattle.xq_joins.specs.Keyed.{passes_key}
 use Rattle.xq_joins.proofs.keyed.keep_by_key.Given as goal

@@ -1,6 +1,6 @@
 use Rattle.std.proofs.Common.{◌≡◌, ◌∙◌, ℕ, ap, map, Bool, List}
 use Rattle.std.specs.Prelude.{string_bytes}
-use Rattle.xq_regions.specs.Tree.{Tree}
+use Rattle.xq_trees.specs.Tree.{Tree}
 use Rattle.xq_meaning.specs.Items.{Place}
 use Rattle.xq_meaning.specs.Readings.{node_at}
 use Rattle.xq_joins.specs.Keyed.{leads_to_key}

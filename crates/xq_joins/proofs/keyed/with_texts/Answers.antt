@@ -1,11 +1,11 @@
 use Rattle.std.proofs.Common.{◌≡◌, ◌∙◌, refl, ap, sym, subst, map}
 use Rattle.std.specs.List.{AllByRecursion}
 use Rattle.std.proofs.lemmas.List.{append-nil}
-use Rattle.xq_regions.specs.Items.{item_view}
-use Rattle.xq_regions.specs.Tuples.{value_at}
+use Rattle.xq_trees.specs.Items.{item_view}
+use Rattle.xq_trees.specs.Tuples.{value_at}
 use Rattle.xq_tuples.specs.Views.{values_of}
 use Rattle.xq_meaning.specs.Readings.{AreIn}
-use Rattle.xq_forms.proofs.Growth.{value_in}
+use Rattle.xq_operators.proofs.Growth.{value_in}
 use Rattle.xq_joins.specs.Keys.{IsNode, texts_from}
 use Rattle.xq_joins.proofs.keyed.with_texts.Goals as goal
 

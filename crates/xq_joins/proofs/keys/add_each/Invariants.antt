@@ -2,7 +2,7 @@ use Rattle.std.proofs.Common.{◌≡◌, ◌&&◌, ◌||◌, Bool, map}
 use Rattle.std.specs.Prelude.{string_bytes}
 use Rattle.std.specs.List.{list_any}
 use Rattle.xq_atoms.specs.Text.{Text, text_eq}
-use Rattle.xq_regions.specs.declared.items.Node.{Node}
+use Rattle.xq_trees.specs.declared.items.Node.{Node}
 use Rattle.xq_joins.specs.private.Tables.{nodes_with}
 use Rattle.xq_joins.proofs.keys.add_each.Given as goal
 

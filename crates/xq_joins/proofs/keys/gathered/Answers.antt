@@ -5,7 +5,7 @@ use Rattle.std.specs.HashMap.{get_by_text}
 use Rattle.std.specs.Option.{option_copied, option_map_or}
 use Rattle.std.specs.List.{list_any}
 use Rattle.std.proofs.lemmas.List.{append-nil}
-use Rattle.xq_regions.specs.declared.items.Node.{Node}
+use Rattle.xq_trees.specs.declared.items.Node.{Node}
 use Rattle.xq_joins.specs.private.Tables.{nodes_with}
 use Rattle.xq_joins.proofs.Lists.{seen_next}
 use Rattle.xq_joins.proofs.Found.{more_gathered}

@@ -1,7 +1,7 @@
 use Rattle.std.proofs.Common.{◌≡◌, Bool, map, take}
 use Rattle.std.specs.Prelude.{string_bytes}
 use Rattle.std.specs.List.{list_any}
-use Rattle.xq_regions.specs.declared.items.Node.{Node}
+use Rattle.xq_trees.specs.declared.items.Node.{Node}
 use Rattle.xq_joins.specs.private.Tables.{nodes_with}
 use Rattle.xq_joins.proofs.keys.gathered.Given as goal
 

@@ -2,10 +2,10 @@ use Rattle.std.proofs.Common.{◌≡◌, ◌∙◌, ap, sym, subst, map, List}
 use Rattle.std.specs.Prelude.{String, string_bytes}
 use Rattle.std.specs.Global.{Global, Vec}
 use Rattle.xq_axes.specs.Nodes.{HaveAll}
-use Rattle.xq_regions.specs.Items.{item_view}
-use Rattle.xq_regions.specs.Tree.{Tree}
+use Rattle.xq_trees.specs.Items.{item_view}
+use Rattle.xq_trees.specs.Tree.{Tree}
 use Rattle.xq_meaning.specs.Readings.{node_at}
-use Rattle.xq_forms.proofs.NodeLemmas.{among_in}
+use Rattle.xq_operators.proofs.NodeLemmas.{among_in}
 use Rattle.xq_joins.specs.Keys.{scans, nodes_after, text_at, texts_from}
 use Rattle.xq_joins.proofs.Lists.{if_ok}
 use Rattle.xq_joins.proofs.Found.{places_are}

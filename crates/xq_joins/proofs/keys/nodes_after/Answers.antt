@@ -2,7 +2,7 @@ use Rattle.std.proofs.Common.{◌≡◌, ◌+◌, ◌∙◌, ap, sym, subst, ari
 use Rattle.std.specs.List.{flat_map}
 use Rattle.std.proofs.lemmas.List.{drop_all}
 use Rattle.xq_axes.specs.Nodes.{HaveAll}
-use Rattle.xq_regions.specs.Tree.{Tree}
+use Rattle.xq_trees.specs.Tree.{Tree}
 use Rattle.xq_meaning.specs.Items.{in_document_order}
 use Rattle.xq_meaning.specs.Readings.{node_at}
 use Rattle.xq_meaning.specs.Steps.{axis_nodes}

@@ -1,17 +1,17 @@
 use Rattle.std.proofs.Common.{◌≡◌, ◌<◌, ◌++◌, ◌∷◌, [], ◌∙◌, ap, sym, subst, arith, refl, length, map, take, slice_index_or, List}
 use Rattle.std.proofs.lemmas.List.{map-append, take_more, length-append}
 use Rattle.xq_axes.specs.Nodes.{HaveAll}
-use Rattle.xq_regions.specs.Items.{ItemView, Place, item_view, item_views}
-use Rattle.xq_regions.specs.Rising.{AreRising}
-use Rattle.xq_regions.specs.Tree.{Tree}
-use Rattle.xq_regions.specs.Tuples.{Tuple}
-use Rattle.xq_regions.proofs.Lists.{all_append}
-use Rattle.xq_regions.proofs.Rising.{rising_seen}
+use Rattle.xq_trees.specs.Items.{ItemView, Place, item_view, item_views}
+use Rattle.xq_trees.specs.Rising.{AreRising}
+use Rattle.xq_trees.specs.Tree.{Tree}
+use Rattle.xq_trees.specs.Tuples.{Tuple}
+use Rattle.xq_trees.proofs.Lists.{all_append}
+use Rattle.xq_trees.proofs.Rising.{rising_seen}
 use Rattle.xq_tuples.specs.Views.{values_of}
 use Rattle.xq_meaning.specs.Readings.{AreIn}
-use Rattle.xq_forms.specs.Views.{TupleIn}
-use Rattle.xq_forms.specs.Nodes.{nodes_among}
-use Rattle.xq_forms.proofs.NodeLemmas.{among_in}
+use Rattle.xq_operators.specs.Views.{TupleIn}
+use Rattle.xq_operators.specs.Nodes.{nodes_among}
+use Rattle.xq_operators.proofs.NodeLemmas.{among_in}
 use Rattle.xq_joins.specs.Joins.{matched, all_matched}
 use Rattle.xq_joins.specs.private.Tables.{IsTable}
 use Rattle.xq_joins.proofs.Found.{are_places}

@@ -1,8 +1,8 @@
 use Rattle.std.proofs.Common.{◌≡◌, length, map, take}
-use Rattle.xq_regions.specs.Items.{item_view}
+use Rattle.xq_trees.specs.Items.{item_view}
 use Rattle.xq_tuples.specs.Views.{values_of}
 use Rattle.xq_meaning.specs.Readings.{AreIn}
-use Rattle.xq_forms.specs.Views.{lists_of, TupleIn, TuplesIn}
+use Rattle.xq_operators.specs.Views.{lists_of, TupleIn, TuplesIn}
 use Rattle.xq_joins.specs.Joins.{all_matched}
 use Rattle.xq_joins.proofs.matches.matching.Given as goal
 

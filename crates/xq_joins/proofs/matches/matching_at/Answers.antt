@@ -1,12 +1,12 @@
 use Rattle.std.proofs.Common.{◌≡◌, ◌++◌, ◌∷◌, [], ◌∙◌, ap, sym, subst, map, filter, Bool}
 use Rattle.std.specs.Prelude.{string_bytes}
 use Rattle.std.specs.List.{list_any}
-use Rattle.xq_regions.specs.declared.items.Node.{Node}
-use Rattle.xq_regions.specs.Items.{ItemView, Place, item_views}
-use Rattle.xq_regions.specs.Tuples.{value_at}
+use Rattle.xq_trees.specs.declared.items.Node.{Node}
+use Rattle.xq_trees.specs.Items.{ItemView, Place, item_views}
+use Rattle.xq_trees.specs.Tuples.{value_at}
 use Rattle.xq_tuples.specs.Views.{values_of}
 use Rattle.xq_meaning.specs.Readings.{AreIn}
-use Rattle.xq_forms.proofs.Growth.{value_in}
+use Rattle.xq_operators.proofs.Growth.{value_in}
 use Rattle.xq_joins.specs.Keys.{meet, texts_from}
 use Rattle.xq_joins.specs.private.Tables.{nodes_with}
 use Rattle.xq_joins.proofs.Found.{found_are, items_are}

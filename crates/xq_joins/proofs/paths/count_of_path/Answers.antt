@@ -1,7 +1,7 @@
 use Rattle.std.proofs.Common.{◌≤◌, ◌∷◌, [], length, refl, subst, arith}
 use Rattle.xq_functions.specs.Answers.{TellsAtom}
 use Rattle.xq_meaning.specs.Functions.{of_one}
-use Rattle.xq_forms.specs.Views.{frame_at, nodes_in}
+use Rattle.xq_operators.specs.Views.{frame_at, nodes_in}
 use Rattle.xq_joins.proofs.DocumentPaths.{path_places}
 use Rattle.xq_joins.proofs.Told.{call_tells}
 use Rattle.xq_joins.proofs.paths.count_of_path.Goals as goal

@@ -1,6 +1,6 @@
 use Rattle.std.proofs.Common.{arith, subst, sym}
-use Rattle.xq_regions.specs.declared.items.Item.{Item}
-use Rattle.xq_regions.specs.Items.{item_view}
+use Rattle.xq_trees.specs.declared.items.Item.{Item}
+use Rattle.xq_trees.specs.Items.{item_view}
 use Rattle.xq_joins.specs.Keys.{IsNode}
 use Rattle.xq_joins.proofs.Lists.{all_seen_next, all_seen}
 use Rattle.xq_joins.proofs.values.are_nodes.Goals as goal

@@ -1,5 +1,5 @@
 use Rattle.std.proofs.Common.{◌≡◌, map, take}
-use Rattle.xq_regions.specs.Items.{Place, item_views}
+use Rattle.xq_trees.specs.Items.{Place, item_views}
 use Rattle.xq_joins.proofs.values.as_items.Given as goal
 
 abbrev pub invariant-loop-node : goal.invariant-loop-node

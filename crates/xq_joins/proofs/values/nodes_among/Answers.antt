@@ -1,12 +1,12 @@
 use Rattle.std.proofs.Common.{◌++◌, ◌∷◌, [], take, map, ap, sym, ◌∙◌, arith}
 use Rattle.std.specs.Global.{Vec}
 use Rattle.std.proofs.lemmas.List.{append-nil}
-use Rattle.xq_regions.specs.declared.items.Item.{Item}
-use Rattle.xq_regions.specs.declared.items.Node.{Node}
-use Rattle.xq_regions.specs.Items.{item_view}
+use Rattle.xq_trees.specs.declared.items.Item.{Item}
+use Rattle.xq_trees.specs.declared.items.Node.{Node}
+use Rattle.xq_trees.specs.Items.{item_view}
 use Rattle.xq_joins.proofs.Lists.{seen_next}
-use Rattle.xq_forms.specs.Nodes.{nodes_among}
-use Rattle.xq_forms.proofs.NodeLemmas.{among-append}
+use Rattle.xq_operators.specs.Nodes.{nodes_among}
+use Rattle.xq_operators.proofs.NodeLemmas.{among-append}
 use Rattle.xq_joins.proofs.values.nodes_among.Goals as goal
 use Rattle.xq_joins.proofs.values.nodes_among.Goals.{in-Node+in_ok-push, in_default}
 

@@ -3,7 +3,7 @@ use Rattle.std.specs.Prelude.{All, slice_range, IsCharBoundary}
 use Rattle.std.proofs.lemmas.Str.{IsUtf8-string_bytes}
 use Rattle.std.proofs.lemmas.List.{length-take}
 use Rattle.std.proofs.lemmas.List.Elements.{All-weaker}
-use Rattle.xq_regions.specs.Tree.{most_levels}
+use Rattle.xq_trees.specs.Tree.{most_levels}
 use Rattle.xq_packed.specs.declared.shapes.Shape.{Shape}
 use Rattle.xq_packed.specs.Packed.{Packed}
 use Rattle.xq_packed.specs.Changes.{moved, AreMovable}

@@ -1,7 +1,7 @@
 use Rattle.std.proofs.Common.{◌<◌, length, subst}
 use Rattle.std.proofs.lemmas.List.Elements.{All-more}
-use Rattle.xq_regions.specs.declared.NodeRow.{NodeRow}
-use Rattle.xq_regions.specs.Tree.{most_levels}
+use Rattle.xq_trees.specs.declared.NodeRow.{NodeRow}
+use Rattle.xq_trees.specs.Tree.{most_levels}
 use Rattle.xq_packed.proofs.Extending.{extended-more}
 use Rattle.xq_packed.proofs.PackedRows.extend.Goals as goal
 

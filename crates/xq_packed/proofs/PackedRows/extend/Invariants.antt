@@ -1,7 +1,7 @@
 use Rattle.std.proofs.Common.{map, take}
 use Rattle.std.specs.Prelude.{All, ◌<◌}
-use Rattle.xq_regions.specs.Tree.{most_levels}
-use Rattle.xq_regions.specs.Rows.{row_of}
+use Rattle.xq_trees.specs.Tree.{most_levels}
+use Rattle.xq_trees.specs.Rows.{row_of}
 use Rattle.xq_packed.specs.Packed.{IsExtended}
 use Rattle.xq_packed.proofs.PackedRows.extend.Given as goal
 

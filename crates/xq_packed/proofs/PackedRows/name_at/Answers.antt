@@ -1,5 +1,5 @@
 use Rattle.std.proofs.Common.{rules, ◌<◌, length, string_bytes, sym, ap, ◌∙◌}
-use Rattle.xq_regions.specs.Rows.{Row}
+use Rattle.xq_trees.specs.Rows.{Row}
 use Rattle.xq_packed.proofs.Standing.{inside, told}
 use Rattle.xq_packed.proofs.Numbering.{name-numbered}
 use Rattle.xq_packed.proofs.PackedRows.name_at.Goals as goal

@@ -3,7 +3,7 @@ use Rattle.std.specs.Prelude.{All}
 use Rattle.std.specs.Vec.{with_items}
 use Rattle.std.proofs.lemmas.Bool.{true≢false}
 use Rattle.std.proofs.lemmas.List.{with_items_is}
-use Rattle.xq_regions.specs.Tree.{most_levels}
+use Rattle.xq_trees.specs.Tree.{most_levels}
 use Rattle.xq_packed.specs.declared.shapes.Shape.{Shape}
 use Rattle.xq_packed.specs.Packed.{Packed, row}
 use Rattle.xq_packed.specs.Changes.{moved, AreMovable}

@@ -1,7 +1,7 @@
 use Rattle.std.proofs.Common.{rules, ◌≡◌, ◌<◌, length, string_bytes, sym, ap, ◌∙◌, subst, arith}
 use Rattle.std.proofs.lemmas.Str.{IsUtf8-string_bytes, IsCharBoundary-from_take}
 use Rattle.std.specs.Prelude.{slice_range, IsCharBoundary}
-use Rattle.xq_regions.specs.Rows.{Row}
+use Rattle.xq_trees.specs.Rows.{Row}
 use Rattle.xq_packed.specs.private.Shapes.{value_end, value_start}
 use Rattle.xq_packed.proofs.Standing.{inside, told}
 use Rattle.xq_packed.proofs.PackedRows.value_at.Goals as goal

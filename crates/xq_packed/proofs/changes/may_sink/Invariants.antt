@@ -1,6 +1,6 @@
 use Rattle.std.proofs.Common.{◌+◌, ◌<◌, take}
 use Rattle.std.specs.Prelude.{All}
-use Rattle.xq_regions.specs.Tree.{most_levels}
+use Rattle.xq_trees.specs.Tree.{most_levels}
 use Rattle.xq_packed.proofs.changes.may_sink.Given as goal
 
 abbrev pub invariant-loop-shape : goal.invariant-loop-shape

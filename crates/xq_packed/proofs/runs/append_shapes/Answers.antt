@@ -1,7 +1,7 @@
 use Rattle.std.proofs.Common.{◌≡◌, ◌<◌, ◌+◌, ◌-◌, ℕ, Result, Ok, Err, take, length, arith}
 use Rattle.std.specs.Prelude.{OnErr}
 use Rattle.std.proofs.lemmas.List.Elements.{All-more}
-use Rattle.xq_regions.specs.Tree.{most_levels}
+use Rattle.xq_trees.specs.Tree.{most_levels}
 use Rattle.xq_packed.specs.declared.shapes.Shape.{Shape}
 use Rattle.xq_packed.specs.private.Copies.{with_named}
 use Rattle.xq_packed.proofs.Changing.{no_shape}

@@ -1,6 +1,6 @@
 use Rattle.std.proofs.Common.{◌≡◌, ◌<◌, ◌+◌, ◌-◌, take, length}
 use Rattle.std.specs.Prelude.{All}
-use Rattle.xq_regions.specs.Tree.{most_levels}
+use Rattle.xq_trees.specs.Tree.{most_levels}
 use Rattle.xq_packed.specs.private.Copies.{IsKnown, AreMovedAfter, with_named}
 use Rattle.xq_packed.proofs.runs.append_shapes.Given as goal
 

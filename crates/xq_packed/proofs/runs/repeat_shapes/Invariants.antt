@@ -1,6 +1,6 @@
 use Rattle.std.proofs.Common.{◌≤◌, ◌<◌, ◌+◌, ◌-◌, vec_len}
 use Rattle.std.specs.Prelude.{All, slice_range, vec_capacity}
-use Rattle.xq_regions.specs.Tree.{most_levels}
+use Rattle.xq_trees.specs.Tree.{most_levels}
 use Rattle.xq_packed.specs.private.Copies.{AreShiftedAfter}
 use Rattle.xq_packed.proofs.runs.repeat_shapes.Given as goal
 

@@ -1,5 +1,5 @@
 use Rattle.std.proofs.Common.{map, drop}
-use Rattle.xq_regions.specs.Items.{item_view}
+use Rattle.xq_trees.specs.Items.{item_view}
 use Rattle.xq_queries.specs.private.Ranges.{AreViewsInRange}
 use Rattle.xq_queries.proofs.asking.are_in_range.Given as goal
 

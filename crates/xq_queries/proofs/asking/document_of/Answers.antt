@@ -1,6 +1,6 @@
 use Rattle.std.proofs.Common.{◌≡◌, ◌∷◌, [], arith}
 use Rattle.std.proofs.lemmas.Grind.{common_steps}
-use Rattle.xq_regions.specs.declared.items.Item.TheVariants.{Node as NodeItem}
+use Rattle.xq_trees.specs.declared.items.Item.TheVariants.{Node as NodeItem}
 use Rattle.xq_queries.proofs.Asked.{one_copied}
 use Rattle.xq_queries.proofs.asking.document_of.Goals as goal
 

@@ -1,6 +1,6 @@
 use Rattle.std.proofs.Common.{◌≡◌, map, subst, arith, rules}
 use Rattle.std.specs.Prelude.{IfOk}
-use Rattle.xq_regions.specs.Items.{item_view}
+use Rattle.xq_trees.specs.Items.{item_view}
 use Rattle.xq_meaning.specs.Readings.{items_at}
 use Rattle.xq_queries.specs.Values.{document}
 use Rattle.xq_queries.proofs.Asked.{then_copied_over, without_last}

@@ -1,4 +1,4 @@
-use Rattle.xq_rows.specs.Views.{beginning}
+use Rattle.xq_store.specs.Views.{beginning}
 use Rattle.xq_server.proofs.evaluations.product_of.Given as goal
 
 -- the view begins with the store that was handed over

@@ -1,8 +1,8 @@
 use Rattle.std.proofs.Common.{◌≡◌, ◌++◌, ◌∷◌, [], ◌-◌, List, true, length, map, refl, ap, ◌∙◌, subst, arith, append_assoc, rules}
 use Rattle.xq_packed.specs.Changes.{resized, with_size}
 use Rattle.xq_packed.specs.Packed.{row}
-use Rattle.xq_regions.specs.Items.{item_view}
-use Rattle.xq_regions.specs.Rows.{Row}
+use Rattle.xq_trees.specs.Items.{item_view}
+use Rattle.xq_trees.specs.Rows.{Row}
 use Rattle.xq_sources.specs.Grafts.{lone}
 use Rattle.xq_sources.specs.private.Meeting.{AreMet}
 use Rattle.xq_sources.specs.private.Planted.{trees_after}

@@ -1,9 +1,9 @@
 use Rattle.std.proofs.Common.{◌≡◌, ◌++◌, ◌∷◌, [], ◌+◌, List, Option, IfSome, length, map, take, take_all, sym, ap, ◌∙◌, subst, arith, append_assoc}
 use Rattle.std.proofs.lemmas.List.{append-nil, length-append, map-append, take_more}
-use Rattle.xq_regions.specs.Items.{item_view, ItemView}
-use Rattle.xq_regions.specs.Rows.{Row}
-use Rattle.xq_regions.specs.declared.Kind.{Kind}
-use Rattle.xq_regions.specs.declared.items.Item.{Item}
+use Rattle.xq_trees.specs.Items.{item_view, ItemView}
+use Rattle.xq_trees.specs.Rows.{Row}
+use Rattle.xq_trees.specs.declared.Kind.{Kind}
+use Rattle.xq_trees.specs.declared.items.Item.{Item}
 use Rattle.xq_sources.specs.private.Meeting.{AreMet, IsNext}
 use Rattle.xq_sources.specs.private.Planted.{trees_after}
 use Rattle.xq_sources.proofs.Meets.{MeetSoFar, none_met, one_met}

@@ -1,7 +1,7 @@
 use Rattle.std.proofs.Common.{◌≡◌, ◌++◌, List, map, take}
-use Rattle.xq_regions.specs.Items.{item_view}
-use Rattle.xq_regions.specs.Rows.{Row}
-use Rattle.xq_regions.specs.Tree.{Label}
+use Rattle.xq_trees.specs.Items.{item_view}
+use Rattle.xq_trees.specs.Rows.{Row}
+use Rattle.xq_trees.specs.Tree.{Label}
 use Rattle.xq_sources.specs.private.Planted.{trees_after, ArePlanted}
 use Rattle.xq_sources.proofs.Meets.{MeetSoFar}
 use Rattle.xq_sources.proofs.grafts.append_trees.Given as goal

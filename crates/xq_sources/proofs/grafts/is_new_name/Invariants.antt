@@ -1,5 +1,5 @@
 use Rattle.std.proofs.Common.{◌≢◌, ◌≤◌, ◌<◌, ℕ}
-use Rattle.xq_regions.specs.Rows.{row_at}
+use Rattle.xq_trees.specs.Rows.{row_at}
 use Rattle.xq_sources.proofs.grafts.is_new_name.Given as goal
 
 -- no row so far has the name

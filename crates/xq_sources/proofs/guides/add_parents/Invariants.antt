@@ -1,5 +1,5 @@
 use Rattle.std.proofs.Common.{◌≡◌, ℕ, List, length}
-use Rattle.xq_regions.specs.Rows.{Row}
+use Rattle.xq_trees.specs.Rows.{Row}
 use Rattle.xq_sources.specs.Lent.{unplaced}
 use Rattle.xq_sources.specs.Parents.{AreParents, IsParentRow}
 use Rattle.xq_sources.proofs.guides.add_parents.Given as goal

@@ -1,5 +1,5 @@
 use Rattle.std.proofs.Common.{◌≡◌, ◌++◌, map, take}
-use Rattle.xq_regions.specs.Rows.{row_of}
+use Rattle.xq_trees.specs.Rows.{row_of}
 use Rattle.xq_packed.specs.Changes.{moved}
 use Rattle.xq_sources.proofs.lent.append_listed.Given as goal
 

@@ -1,5 +1,5 @@
 use Rattle.std.proofs.Common.{◌++◌, List, ap, ◌∙◌}
-use Rattle.xq_regions.specs.Rows.{Row}
+use Rattle.xq_trees.specs.Rows.{Row}
 use Rattle.xq_sources.proofs.Planting.{copied}
 use Rattle.xq_sources.proofs.planted.append_whole.Goals as goal
 

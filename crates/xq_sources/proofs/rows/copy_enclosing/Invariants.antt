@@ -1,6 +1,6 @@
 use Rattle.std.proofs.Common.{◌≡◌, map, take}
 use Rattle.std.specs.Prelude.{filter}
-use Rattle.xq_regions.specs.Rows.{placed}
+use Rattle.xq_trees.specs.Rows.{placed}
 use Rattle.xq_sources.specs.Sources.{encloses}
 use Rattle.xq_sources.proofs.rows.copy_enclosing.Given as goal
 

@@ -1,5 +1,5 @@
 use Rattle.std.proofs.Common.{◌≡◌, map, take}
-use Rattle.xq_regions.specs.Rows.{placed}
+use Rattle.xq_trees.specs.Rows.{placed}
 use Rattle.xq_sources.proofs.rows.copy_rows.Given as goal
 
 -- the rows so far were copied

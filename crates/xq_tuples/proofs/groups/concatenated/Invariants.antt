@@ -1,7 +1,7 @@
 use Rattle.std.proofs.Common.{◌≡◌, [], take, slice_index_or}
 use Rattle.std.specs.List.{flat_map}
-use Rattle.xq_regions.specs.Tuples.{value_at}
-use Rattle.xq_regions.specs.Items.{item_views}
+use Rattle.xq_trees.specs.Tuples.{value_at}
+use Rattle.xq_trees.specs.Items.{item_views}
 use Rattle.xq_tuples.proofs.groups.concatenated.Given as goal
 
 abbrev pub invariant-loop-number : goal.invariant-loop-number

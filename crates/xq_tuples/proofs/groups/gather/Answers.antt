@@ -1,7 +1,7 @@
 use Rattle.std.proofs.Common.{◌≡◌, ◌+◌, [], map, length, get_or, ap, sym, subst, ◌∙◌, arith, rules}
 use Rattle.std.specs.List.{range_with_len}
 use Rattle.std.proofs.lemmas.List.FromFn.{map-range_with_len_more}
-use Rattle.xq_regions.specs.Tuples.{groups, same_keys}
+use Rattle.xq_trees.specs.Tuples.{groups, same_keys}
 use Rattle.xq_tuples.specs.private.KeyRows.{keys_at}
 use Rattle.xq_tuples.specs.private.Groups.{Gathers, keyed_of}
 use Rattle.xq_tuples.proofs.Lists.{by_number}

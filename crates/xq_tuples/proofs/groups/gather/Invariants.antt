@@ -1,7 +1,7 @@
 use Rattle.std.proofs.Common.{◌≡◌, List, map, length, vec_len}
 use Rattle.std.specs.List.{range_with_len}
-use Rattle.xq_regions.specs.Items.{ItemView}
-use Rattle.xq_regions.specs.Tuples.{Tuple}
+use Rattle.xq_trees.specs.Items.{ItemView}
+use Rattle.xq_trees.specs.Tuples.{Tuple}
 use Rattle.xq_tuples.specs.private.Groups.{Gathers, keyed_of}
 use Rattle.xq_tuples.proofs.groups.gather.Given as goal
 

@@ -1,7 +1,7 @@
 use Rattle.std.proofs.Common.{◌≡◌, take}
 use Rattle.std.specs.List.{flat_map}
-use Rattle.xq_regions.specs.Tuples.{grouped_tuple}
-use Rattle.xq_regions.specs.Items.{Value}
+use Rattle.xq_trees.specs.Tuples.{grouped_tuple}
+use Rattle.xq_trees.specs.Items.{Value}
 use Rattle.xq_tuples.specs.Views.{values_of}
 use Rattle.xq_tuples.specs.private.Groups.{group_of}
 use Rattle.xq_tuples.proofs.groups.joined.Given as goal

@@ -7,8 +7,8 @@ use Rattle.std.proofs.lemmas.List.{map_push, length-map, append_assoc}
 use Rattle.std.proofs.lemmas.List.Folds.{flat_map-map}
 use Rattle.std.proofs.lemmas.List.FromFn.{map-range_with_len_more}
 use Rattle.xq_atoms.specs.declared.atoms.Atom.{Atom}
-use Rattle.xq_regions.specs.Tuples.{Tuple, Keyed, grouped_value, grouped_tuple, slot_key, value_at}
-use Rattle.xq_regions.specs.Items.{ItemView, Value, item_views}
+use Rattle.xq_trees.specs.Tuples.{Tuple, Keyed, grouped_value, grouped_tuple, slot_key, value_at}
+use Rattle.xq_trees.specs.Items.{ItemView, Value, item_views}
 use Rattle.xq_tuples.specs.Views.{slot_items, values_of}
 use Rattle.xq_tuples.specs.private.KeyRows.{key_view, keys_at}
 use Rattle.xq_tuples.specs.private.Groups.{keyed_of}

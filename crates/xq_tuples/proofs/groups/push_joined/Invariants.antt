@@ -1,7 +1,7 @@
 use Rattle.std.proofs.Common.{◌≡◌, ◌++◌, map}
 use Rattle.std.specs.List.{range_with_len}
-use Rattle.xq_regions.specs.Tuples.{grouped_value, slot_key}
-use Rattle.xq_regions.specs.Items.{Value}
+use Rattle.xq_trees.specs.Tuples.{grouped_value, slot_key}
+use Rattle.xq_trees.specs.Items.{Value}
 use Rattle.xq_tuples.specs.Views.{values_of}
 use Rattle.xq_tuples.specs.private.KeyRows.{keys_at}
 use Rattle.xq_tuples.specs.private.Groups.{keyed_of}

@@ -1,6 +1,6 @@
 use Rattle.std.proofs.Common.{◌≡◌, map, true}
 use Rattle.std.specs.List.{list_all}
-use Rattle.xq_regions.specs.Tuples.{is_key, sort_keys}
+use Rattle.xq_trees.specs.Tuples.{is_key, sort_keys}
 use Rattle.xq_tuples.specs.Keys.{values_in}
 use Rattle.xq_tuples.specs.private.Groups.{compared_of}
 use Rattle.xq_tuples.proofs.keys.compared_column.Given as goal

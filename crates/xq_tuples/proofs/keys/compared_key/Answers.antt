@@ -2,7 +2,7 @@ use Rattle.std.proofs.Common.{◌≡◌, Option, Some, None, refl, ap, ◌∙◌
 use Rattle.std.specs.Prelude.{IfOk}
 use Rattle.xq_atoms.specs.declared.atoms.Atom.{Atom}
 use Rattle.xq_atoms.specs.Compare.{key_of, group_key}
-use Rattle.xq_regions.specs.Tuples.{comparison_key}
+use Rattle.xq_trees.specs.Tuples.{comparison_key}
 use Rattle.xq_tuples.specs.private.KeyRows.{key_view}
 use Rattle.xq_tuples.proofs.keys.compared_key.Goals as goal
 

@@ -1,5 +1,5 @@
 use Rattle.std.proofs.Common.{◌≡◌, take}
-use Rattle.xq_regions.specs.Tuples.{comparison_keys}
+use Rattle.xq_trees.specs.Tuples.{comparison_keys}
 use Rattle.xq_tuples.specs.private.KeyRows.{keys_at}
 use Rattle.xq_tuples.specs.private.Groups.{compared_of}
 use Rattle.xq_tuples.proofs.keys.compared_keys.Given as goal

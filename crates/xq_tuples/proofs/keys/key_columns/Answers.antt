@@ -5,7 +5,7 @@ use Rattle.std.proofs.lemmas.Result.{err_from_is_err_and}
 use Rattle.std.proofs.lemmas.Iterator.Adapters.{YieldsList-from_vec}
 use Rattle.std.proofs.lemmas.Iterator.Consumers.{YieldsList-turn}
 use Rattle.std.proofs.lemmas.List.Folds.{list_all_at}
-use Rattle.xq_regions.specs.Tuples.{is_key}
+use Rattle.xq_trees.specs.Tuples.{is_key}
 use Rattle.xq_tuples.specs.Keys.{row_of}
 use Rattle.xq_tuples.proofs.Refusals.{Refuses-weaker}
 use Rattle.xq_tuples.proofs.keys.key_columns.Goals as goal

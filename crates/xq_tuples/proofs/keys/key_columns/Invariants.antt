@@ -1,5 +1,5 @@
 use Rattle.std.proofs.Common.{◌≡◌, map, true}
-use Rattle.xq_regions.specs.Tuples.{are_keys, key_value}
+use Rattle.xq_trees.specs.Tuples.{are_keys, key_value}
 use Rattle.xq_tuples.specs.Keys.{row_of}
 use Rattle.xq_tuples.specs.private.KeyRows.{keys_of}
 use Rattle.xq_tuples.proofs.keys.key_columns.Given as goal

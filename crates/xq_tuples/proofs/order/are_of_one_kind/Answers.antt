@@ -4,7 +4,7 @@ use Rattle.std.specs.Option.{option_map}
 use Rattle.std.proofs.lemmas.Iterator.{YieldsList-from_slice}
 use Rattle.std.proofs.lemmas.Iterator.Search.{find_from_yields_List}
 use Rattle.xq_atoms.specs.Compare.{key_of}
-use Rattle.xq_regions.specs.Tuples.{is_nothing}
+use Rattle.xq_trees.specs.Tuples.{is_nothing}
 use Rattle.xq_tuples.proofs.Comparing.{like_found, like_found-all}
 use Rattle.xq_tuples.proofs.order.are_of_one_kind.Goals as goal
 

@@ -1,6 +1,6 @@
 use Rattle.std.proofs.Common.{◌≡◌, map, drop}
 use Rattle.xq_atoms.specs.Compare.{Nothing, key_of}
-use Rattle.xq_regions.specs.Tuples.{keys_cmp}
+use Rattle.xq_trees.specs.Tuples.{keys_cmp}
 use Rattle.xq_tuples.specs.Orders.{rule_of}
 use Rattle.xq_tuples.specs.private.Ranks.{keys_at}
 use Rattle.xq_tuples.proofs.order.compare.Given as goal

@@ -1,6 +1,6 @@
 use Rattle.std.proofs.Common.{◌&&◌, map, refl, ap, ◌∙◌, sym}
 use Rattle.xq_atoms.specs.Compare.{key_of}
-use Rattle.xq_regions.specs.Tuples.{are_of_one_kind}
+use Rattle.xq_trees.specs.Tuples.{are_of_one_kind}
 use Rattle.xq_tuples.proofs.order.sort_column.Goals as goal
 
 pub returns-then-are_of_one_kind-clause-can_order : goal.returns-then-are_of_one_kind-clause-can_order

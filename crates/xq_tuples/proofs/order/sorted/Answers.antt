@@ -4,7 +4,7 @@ use Rattle.std.specs.List.{AllByRecursion, enumerate_from, range_with_len}
 use Rattle.std.specs.declared.cmp.Ordering.{Ordering}
 use Rattle.std.proofs.lemmas.List.{length-map}
 use Rattle.xq_atoms.specs.Compare.{Key, key_of, Nothing}
-use Rattle.xq_regions.specs.Tuples.{sorted}
+use Rattle.xq_trees.specs.Tuples.{sorted}
 use Rattle.xq_tuples.specs.declared.rows.Ranked.{Ranked}
 use Rattle.xq_tuples.specs.private.Groups.{compared_of}
 use Rattle.xq_tuples.specs.private.Ranks.{by_keys_at, by_numbers, first_of}

@@ -3,8 +3,8 @@ use Rattle.std.specs.List.{flat_map, enumerate_from}
 use Rattle.std.proofs.lemmas.Iterator.Adapters.{YieldsList-from_vec}
 use Rattle.std.proofs.lemmas.Iterator.Consumers.{YieldsList-end, YieldsList-from_enumerate}
 use Rattle.std.proofs.lemmas.List.Folds.{flat_map-map}
-use Rattle.xq_regions.specs.Tuples.{Tuple, item_values}
-use Rattle.xq_regions.specs.Items.{ItemView, Value, item_view}
+use Rattle.xq_trees.specs.Tuples.{Tuple, item_values}
+use Rattle.xq_trees.specs.Items.{ItemView, Value, item_view}
 use Rattle.xq_tuples.specs.Views.{values_of}
 use Rattle.xq_tuples.proofs.Lists.{counted-yielded}
 use Rattle.xq_tuples.proofs.values.push_each.Goals as goal

@@ -1,7 +1,7 @@
 use Rattle.std.proofs.Common.{◌≡◌, ◌+◌, ◌++◌}
 use Rattle.std.specs.List.{flat_map}
-use Rattle.xq_regions.specs.Tuples.{item_values}
-use Rattle.xq_regions.specs.Items.{Value, item_view}
+use Rattle.xq_trees.specs.Tuples.{item_values}
+use Rattle.xq_trees.specs.Items.{Value, item_view}
 use Rattle.xq_tuples.specs.Views.{values_of}
 use Rattle.xq_tuples.proofs.values.push_each.Given as goal
 

@@ -1,6 +1,6 @@
 use Rattle.std.proofs.Common.{◌≡◌, ◌+◌, ◌++◌, ◌∷◌, [], ◌&&◌, ◌||◌, cond, eqb, nat_le, sym, ap, ◌∙◌}
-use Rattle.xq_regions.specs.RegionTests.{plain_row}
-use Rattle.xq_regions.specs.Rows.{rows, row_at}
+use Rattle.xq_trees.specs.RegionTests.{plain_row}
+use Rattle.xq_trees.specs.Rows.{rows, row_at}
 use Rattle.xq_axes.specs.private.Hits.{is_among, row_passes}
 use Rattle.xq_axes.specs.private.Downward.{level_of}
 use Rattle.xq_axes.specs.private.Waiting.{waits, is_awaited, IsLooked}

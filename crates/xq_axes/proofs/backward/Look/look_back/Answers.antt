@@ -1,5 +1,5 @@
 use Rattle.std.proofs.Common.{◌≡◌, ◌+◌, length, refl, sym, ap, subst, ◌∙◌, arith}
-use Rattle.xq_regions.specs.Rows.{rows, row_at}
+use Rattle.xq_trees.specs.Rows.{rows, row_at}
 use Rattle.xq_axes.specs.private.Waiting.{AreSeen, seen_of, IsLooked}
 use Rattle.xq_axes.proofs.Looking.{moved, seen_last}
 use Rattle.xq_axes.proofs.backward.Look.look_back.Goals as goal

@@ -1,6 +1,6 @@
 use Rattle.std.proofs.Common.{◌≡◌, ◌+◌, length, [], ◌∷◌, sym, ap, subst, ◌∙◌, arith}
 use Rattle.std.proofs.lemmas.List.{length-append}
-use Rattle.xq_regions.specs.Rows.{rows, row_at}
+use Rattle.xq_trees.specs.Rows.{rows, row_at}
 use Rattle.xq_sources.specs.Lent.{placed_lent}
 use Rattle.xq_axes.specs.private.Waiting.{AreSeen}
 use Rattle.xq_axes.proofs.Runs.{one_on}

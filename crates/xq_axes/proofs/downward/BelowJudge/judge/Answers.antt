@@ -1,15 +1,15 @@
 use Rattle.std.proofs.Common.{◌≡◌, ◌+◌, ◌-◌, ◌&&◌, false, get_or, set, nat_lt, not, sym, ap, ◌∙◌, subst, arith}
 use Rattle.std.specs.Prelude.{slice_get}
-use Rattle.xq_regions.specs.Rows.{Row, rows}
-use Rattle.xq_regions.specs.Tree.{is_attribute}
-use Rattle.xq_regions.specs.RegionTests.{plain_row}
+use Rattle.xq_trees.specs.Rows.{Row, rows}
+use Rattle.xq_trees.specs.Tree.{is_attribute}
+use Rattle.xq_trees.specs.RegionTests.{plain_row}
 use Rattle.xq_sources.specs.Lent.{placed_lent}
 use Rattle.xq_axes.specs.declared.contexts.Contexts.{Contexts}
 use Rattle.xq_axes.specs.private.Hits.{is_among, is_hit, AreUnhit, IsRising, IsReached}
 use Rattle.xq_axes.specs.private.Downward.{axis_of, is_chosen, is_child, level_of, rows_over, IsJudged}
 use Rattle.xq_axes.proofs.Clusters.{judged, is_met, descendant}
 use Rattle.xq_axes.proofs.Picking.{judged_one}
-use Rattle.xq_regions.specs.declared.Axis.TheVariants as axis
+use Rattle.xq_trees.specs.declared.Axis.TheVariants as axis
 use Rattle.xq_axes.specs.declared.downward.Downward.TheVariants.{Descendant}
 use Rattle.xq_axes.proofs.Over.{goes_over}
 use Rattle.xq_axes.proofs.downward.BelowJudge.judge.Goals as goal

@@ -1,8 +1,8 @@
 use Rattle.std.proofs.Common.{◌≡◌, ◌+◌, ◌-◌, ◌∷◌, [], not, false, nat_eq, sym, ap, ◌∙◌}
-use Rattle.xq_regions.specs.Rows.{Row, rows}
-use Rattle.xq_regions.specs.Tree.{is_attribute}
-use Rattle.xq_regions.specs.RegionTests.{plain_row}
-use Rattle.xq_regions.specs.declared.Axis.TheVariants as axis
+use Rattle.xq_trees.specs.Rows.{Row, rows}
+use Rattle.xq_trees.specs.Tree.{is_attribute}
+use Rattle.xq_trees.specs.RegionTests.{plain_row}
+use Rattle.xq_trees.specs.declared.Axis.TheVariants as axis
 use Rattle.xq_sources.specs.Lent.{placed_lent}
 use Rattle.xq_axes.specs.declared.near.AttributesOf.{AttributesOf}
 use Rattle.xq_axes.specs.private.Downward.{level_of}

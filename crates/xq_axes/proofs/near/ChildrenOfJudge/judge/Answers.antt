@@ -1,7 +1,7 @@
 use Rattle.std.proofs.Common.{◌≡◌, ◌+◌, ◌&&◌, not, nat_eq, sym, ap, ◌∙◌}
-use Rattle.xq_regions.specs.Rows.{Row, rows}
-use Rattle.xq_regions.specs.Tree.{is_attribute}
-use Rattle.xq_regions.specs.RegionTests.{plain_row}
+use Rattle.xq_trees.specs.Rows.{Row, rows}
+use Rattle.xq_trees.specs.Tree.{is_attribute}
+use Rattle.xq_trees.specs.RegionTests.{plain_row}
 use Rattle.xq_axes.specs.declared.near.ChildrenOf.{ChildrenOf}
 use Rattle.xq_axes.specs.private.Downward.{level_of}
 use Rattle.xq_axes.proofs.OneNode.{child_hit, child_within, child_over}

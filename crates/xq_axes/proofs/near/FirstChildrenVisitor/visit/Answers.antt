@@ -1,6 +1,6 @@
 use Rattle.std.proofs.Common.{◌≡◌, ◌+◌, ◌-◌, ◌∷◌, [], ◌++◌, ◌&&◌, true, false, refl, sym, ap, subst, ◌∙◌, arith}
 use Rattle.std.proofs.lemmas.List.{append-nil}
-use Rattle.xq_regions.specs.declared.Axis.TheVariants as axis
+use Rattle.xq_trees.specs.declared.Axis.TheVariants as axis
 use Rattle.xq_sources.specs.Lent.{row_lent}
 use Rattle.xq_axes.specs.declared.near.ChildrenOf.{ChildrenOf}
 use Rattle.xq_axes.specs.private.Hits.{is_wanted, row_passes, below_where}

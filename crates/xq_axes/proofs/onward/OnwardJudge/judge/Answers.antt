@@ -1,8 +1,8 @@
 use Rattle.std.proofs.Common.{◌≡◌, ℕ, ◌+◌, ◌≤◌, ◌&&◌, ◌||◌, true, not, eqb, nat_le, sym, ap, subst, ◌∙◌, arith}
 use Rattle.std.specs.Prelude.{slice_get}
-use Rattle.xq_regions.specs.Rows.{Row, rows}
-use Rattle.xq_regions.specs.Tree.{is_attribute}
-use Rattle.xq_regions.specs.RegionTests.{plain_row}
+use Rattle.xq_trees.specs.Rows.{Row, rows}
+use Rattle.xq_trees.specs.Tree.{is_attribute}
+use Rattle.xq_trees.specs.RegionTests.{plain_row}
 use Rattle.xq_axes.specs.private.Hits.{is_among, IsRising, IsReached}
 use Rattle.xq_axes.specs.private.Downward.{level_of}
 use Rattle.xq_axes.specs.private.Waiting.{has_siblings, rows_below}

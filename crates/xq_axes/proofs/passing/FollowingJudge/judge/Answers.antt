@@ -1,7 +1,7 @@
 use Rattle.std.proofs.Common.{◌<◌, not, ap, ◌∙◌, arith}
-use Rattle.xq_regions.specs.Rows.{Row}
-use Rattle.xq_regions.specs.Tree.{is_attribute}
-use Rattle.xq_regions.specs.declared.Axis.TheVariants as axes
+use Rattle.xq_trees.specs.Rows.{Row}
+use Rattle.xq_trees.specs.Tree.{is_attribute}
+use Rattle.xq_trees.specs.declared.Axis.TheVariants as axes
 use Rattle.xq_sources.specs.Lent.{placed_lent}
 use Rattle.xq_axes.specs.private.Hits.{is_hit}
 use Rattle.xq_axes.specs.private.Passing.{IsLeastEnd}

@@ -1,10 +1,10 @@
 use Rattle.std.proofs.Common.{◌≡◌, ◌+◌, ◌&&◌, not, nat_lt, ap, ◌∙◌}
-use Rattle.xq_regions.specs.Rows.{Row, rows}
-use Rattle.xq_regions.specs.RegionTests.{plain_row}
-use Rattle.xq_regions.specs.Tree.{is_attribute}
+use Rattle.xq_trees.specs.Rows.{Row, rows}
+use Rattle.xq_trees.specs.RegionTests.{plain_row}
+use Rattle.xq_trees.specs.Tree.{is_attribute}
 use Rattle.xq_sources.specs.Lent.{placed_lent}
 use Rattle.xq_axes.specs.private.Downward.{end_of}
-use Rattle.xq_regions.specs.declared.Axis.TheVariants as axes
+use Rattle.xq_trees.specs.declared.Axis.TheVariants as axes
 use Rattle.xq_axes.specs.private.Hits.{is_hit}
 use Rattle.xq_axes.specs.private.Passing.{IsLast}
 use Rattle.xq_axes.proofs.Picking.{judged_one}

@@ -1,6 +1,6 @@
 use Rattle.std.proofs.Common.{◌++◌, string_bytes, sym, ap, ◌∙◌}
 use Rattle.std.proofs.lemmas.List.{append-nil}
-use Rattle.xq_regions.specs.Value.{text_of}
+use Rattle.xq_trees.specs.Value.{text_of}
 use Rattle.xq_axes.proofs.Texts.{no_text, texts_more}
 use Rattle.xq_axes.proofs.values.TextsVisitor.visit.Goals as goal
 

@@ -1,7 +1,7 @@
 use Rattle.std.proofs.Common.{rules, ◌≡◌, ◌↔◌, ◌≤◌, List, Bool, true, map, length, string_bytes, refl, sym, ap, ◌∙◌, subst, arith}
 use Rattle.std.specs.Prelude.{bytes_eq, nat_eq, IsTrue, slice_range}
 use Rattle.std.specs.List.{IsDistinct}
-use Rattle.xq_regions.specs.Rows.{row_name}
+use Rattle.xq_trees.specs.Rows.{row_name}
 use Rattle.xq_packed.specs.declared.shapes.Shape.{Shape}
 use Rattle.xq_packed.specs.Packed.{Packed}
 use Rattle.xq_packed.specs.private.Shapes.{value_start, rows_of_shapes, number_of}

@@ -1,6 +1,6 @@
 use Rattle.std.proofs.Common.{◌≡◌, ◌∙◌, ◌++◌, ◌+◌, List, drop, map, sym, ap, subst}
 use Rattle.std.specs.Prelude.{OnOk, slice_range}
-use Rattle.xq_regions.specs.Rows.{Row, row_of}
+use Rattle.xq_trees.specs.Rows.{Row, row_of}
 use Rattle.xq_packed.specs.Changes.{moved}
 use Rattle.xq_sources.specs.Lent.{unplaced}
 use Rattle.xq_sources.specs.private.Forms.{rows_of_form}

@@ -1,7 +1,7 @@
 use Rattle.std.proofs.Common.{◌≡◌, ◌-◌, drop, length, map, min, sym, ap, ◌∙◌, arith}
 use Rattle.std.specs.Prelude.{slice_range}
 use Rattle.std.specs.List.{enumerate_from}
-use Rattle.xq_regions.specs.Rows.{placed}
+use Rattle.xq_trees.specs.Rows.{placed}
 use Rattle.xq_sources.specs.private.Forms.{rows_of_form}
 use Rattle.xq_sources.proofs.Between.{mapped_part, part_left, part_of_part, part_there}
 use Rattle.xq_sources.proofs.Forms.{as_many}

@@ -1,6 +1,6 @@
 use Rattle.std.proofs.Common.{map, take, sym, ap, ◌∙◌}
 use Rattle.std.proofs.lemmas.List.{take-map, take_min}
-use Rattle.xq_regions.specs.Rows.{placed}
+use Rattle.xq_trees.specs.Rows.{placed}
 use Rattle.xq_sources.specs.private.Forms.{rows_of_form}
 use Rattle.xq_sources.proofs.lent.LentRows.first.Goals as goal
 

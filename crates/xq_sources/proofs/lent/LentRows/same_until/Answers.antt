@@ -1,7 +1,7 @@
 use Rattle.std.proofs.Common.{◌≡◌, ◌<◌, ◌+◌, ◌-◌, length, drop, sym, ap, ◌∙◌, arith}
 use Rattle.std.proofs.lemmas.List.{get_or-drop}
 use Rattle.std.proofs.lemmas.Option.{get_or_from_slice_get}
-use Rattle.xq_regions.specs.Rows.{Row, row_at, no_row}
+use Rattle.xq_trees.specs.Rows.{Row, row_at, no_row}
 use Rattle.xq_sources.specs.Lent.{lent_at}
 use Rattle.xq_sources.proofs.Forms.{as_many, is_got}
 use Rattle.xq_sources.proofs.lent.LentRows.same_until.Goals as goal

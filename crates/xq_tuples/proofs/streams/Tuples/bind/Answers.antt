@@ -5,9 +5,9 @@ use Rattle.std.proofs.lemmas.List.{length-map, length_push, map-id}
 use Rattle.std.proofs.lemmas.List.FromFn.{length-enumerate_from}
 use Rattle.std.proofs.lemmas.Iterator.Adapters.{YieldsList-from_vec}
 use Rattle.std.proofs.lemmas.Iterator.Consumers.{YieldsList-end, YieldsList-turn, YieldsList-from_enumerate}
-use Rattle.xq_regions.specs.declared.items.Item.{Item}
-use Rattle.xq_regions.specs.Items.{ItemView, item_views}
-use Rattle.xq_regions.specs.Tuples.{Tuple, bound}
+use Rattle.xq_trees.specs.declared.items.Item.{Item}
+use Rattle.xq_trees.specs.Items.{ItemView, item_views}
+use Rattle.xq_trees.specs.Tuples.{Tuple, bound}
 use Rattle.xq_tuples.specs.Views.{slot_items, values_of}
 use Rattle.xq_tuples.specs.private.Laid.{laid}
 use Rattle.xq_tuples.proofs.Copies.{slot_pushed}

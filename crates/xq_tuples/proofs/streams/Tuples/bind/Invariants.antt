@@ -1,6 +1,6 @@
 use Rattle.std.proofs.Common.{length, map}
-use Rattle.xq_regions.specs.Tuples.{bound}
-use Rattle.xq_regions.specs.Items.{item_views}
+use Rattle.xq_trees.specs.Tuples.{bound}
+use Rattle.xq_trees.specs.Items.{item_views}
 use Rattle.xq_tuples.specs.Views.{values_of}
 use Rattle.xq_tuples.proofs.Laid.{IsLaid}
 use Rattle.xq_tuples.proofs.streams.Tuples.bind.Given as goal

@@ -1,8 +1,8 @@
 use Rattle.std.proofs.Common.{◌≡◌, ◌<◌, [], ◌∷◌, ◌++◌, map, length, get_or, sym, ap, ◌∙◌, arith}
 use Rattle.std.proofs.lemmas.List.{map_push, map_more, take_all}
 use Rattle.std.proofs.lemmas.List.Elements.{All-get_or}
-use Rattle.xq_regions.specs.Tuples.{value_at}
-use Rattle.xq_regions.specs.Items.{item_view, item_views}
+use Rattle.xq_trees.specs.Tuples.{value_at}
+use Rattle.xq_trees.specs.Items.{item_view, item_views}
 use Rattle.xq_tuples.specs.Views.{values_of}
 use Rattle.xq_tuples.proofs.Laid.{counted}
 use Rattle.xq_tuples.proofs.streams.Tuples.column.Goals as goal

@@ -1,6 +1,6 @@
 use Rattle.std.proofs.Common.{◌≡◌, map, take}
-use Rattle.xq_regions.specs.Tuples.{value_at}
-use Rattle.xq_regions.specs.Items.{item_views}
+use Rattle.xq_trees.specs.Tuples.{value_at}
+use Rattle.xq_trees.specs.Items.{item_views}
 use Rattle.xq_tuples.proofs.streams.Tuples.column.Given as goal
 
 abbrev pub invariant-loop-index : goal.invariant-loop-index

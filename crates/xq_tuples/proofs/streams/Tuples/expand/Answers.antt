@@ -4,9 +4,9 @@ use Rattle.std.specs.List.{flat_map}
 use Rattle.std.proofs.lemmas.List.{length-map, map-id}
 use Rattle.std.proofs.lemmas.Iterator.Adapters.{YieldsList-from_vec}
 use Rattle.std.proofs.lemmas.Iterator.Consumers.{YieldsList-end, YieldsList-turn, YieldsList-from_enumerate}
-use Rattle.xq_regions.specs.declared.items.Item.{Item}
-use Rattle.xq_regions.specs.Items.{ItemView, Value, item_view, item_views}
-use Rattle.xq_regions.specs.Tuples.{Tuple, expanded, with_each}
+use Rattle.xq_trees.specs.declared.items.Item.{Item}
+use Rattle.xq_trees.specs.Items.{ItemView, Value, item_view, item_views}
+use Rattle.xq_trees.specs.Tuples.{Tuple, expanded, with_each}
 use Rattle.xq_tuples.specs.Keys.{by_tuple}
 use Rattle.xq_tuples.specs.Views.{slot_items, values_of}
 use Rattle.xq_tuples.specs.private.Laid.{laid, slots_bound}

@@ -1,6 +1,6 @@
 use Rattle.std.proofs.Common.{map, true}
-use Rattle.xq_regions.specs.Tuples.{expanded}
-use Rattle.xq_regions.specs.Items.{Value, item_views}
+use Rattle.xq_trees.specs.Tuples.{expanded}
+use Rattle.xq_trees.specs.Items.{Value, item_views}
 use Rattle.xq_tuples.specs.Views.{values_of}
 use Rattle.xq_tuples.proofs.Laid.{IsLaid}
 use Rattle.xq_tuples.proofs.streams.Tuples.expand_empty.Given as goal

@@ -3,8 +3,8 @@ use Rattle.std.specs.List.{All}
 use Rattle.std.specs.Prelude.{IfOk, IfErr}
 use Rattle.std.proofs.lemmas.List.{length-map}
 use Rattle.xq_atoms.specs.Answers.{IsRefusal}
-use Rattle.xq_regions.specs.Tuples.{grouped}
-use Rattle.xq_regions.specs.Items.{Value}
+use Rattle.xq_trees.specs.Tuples.{grouped}
+use Rattle.xq_trees.specs.Items.{Value}
 use Rattle.xq_tuples.specs.Keys.{column_of, row_of}
 use Rattle.xq_tuples.proofs.Columns.{lists_as_long}
 use Rattle.xq_tuples.proofs.streams.Tuples.group.Goals as goal

@@ -4,8 +4,8 @@ use Rattle.std.specs.List.{flat_map, zip}
 use Rattle.std.proofs.lemmas.List.{length-map}
 use Rattle.std.proofs.lemmas.Result.{err_from_is_err_and}
 use Rattle.xq_atoms.specs.declared.refusals.Code.TheVariants.{XPTY0004}
-use Rattle.xq_regions.specs.Tuples.{grouped_tuple, groups, same_keys, key_rows, key_value}
-use Rattle.xq_regions.specs.Items.{Value}
+use Rattle.xq_trees.specs.Tuples.{grouped_tuple, groups, same_keys, key_rows, key_value}
+use Rattle.xq_trees.specs.Items.{Value}
 use Rattle.xq_tuples.specs.Keys.{by_tuple, rows_in}
 use Rattle.xq_tuples.specs.Views.{slot_items, values_of}
 use Rattle.xq_tuples.specs.private.KeyRows.{keys_of}

@@ -1,6 +1,6 @@
 use Rattle.std.proofs.Common.{◌≡◌, ◌+◌, ◌*◌, ◌<◌, length, true, false, refl, sym, ap, subst, ◌∙◌, arith}
 use Rattle.std.proofs.lemmas.List.{length-map, get_or_default, take_all, with_items_is}
-use Rattle.xq_regions.specs.Tuples.{satisfying}
+use Rattle.xq_trees.specs.Tuples.{satisfying}
 use Rattle.xq_tuples.specs.Keys.{by_tuple}
 use Rattle.xq_tuples.specs.Views.{slot_items, values_of}
 use Rattle.xq_tuples.specs.private.Laid.{KeepsInPlace, spread}

@@ -2,8 +2,8 @@ use Rattle.std.proofs.Common.{◌≡◌, ℕ, ◌+◌, ◌<◌, [], ◌∷◌, �
 use Rattle.std.specs.Prelude.{pos}
 use Rattle.std.proofs.lemmas.List.{length-map, take_all}
 use Rattle.xq_atoms.specs.Atom.{Integer}
-use Rattle.xq_regions.specs.Items.{ItemView, Value}
-use Rattle.xq_regions.specs.Tuples.{Tuple, numbered}
+use Rattle.xq_trees.specs.Items.{ItemView, Value}
+use Rattle.xq_trees.specs.Tuples.{Tuple, numbered}
 use Rattle.xq_tuples.specs.Views.{slot_items, values_of}
 use Rattle.xq_tuples.specs.private.Laid.{laid}
 use Rattle.xq_tuples.proofs.Copies.{slot_pushed}

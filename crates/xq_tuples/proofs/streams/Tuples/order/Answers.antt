@@ -2,7 +2,7 @@ use Rattle.std.proofs.Common.{◌≡◌, Ok, map, length, sym, subst}
 use Rattle.std.specs.List.{All}
 use Rattle.std.specs.Prelude.{IfOk, IfErr}
 use Rattle.xq_atoms.specs.Answers.{IsRefusal}
-use Rattle.xq_regions.specs.Tuples.{ordered}
+use Rattle.xq_trees.specs.Tuples.{ordered}
 use Rattle.xq_tuples.specs.Orders.{rule_of}
 use Rattle.xq_tuples.proofs.Columns.{lists_as_long}
 use Rattle.xq_tuples.proofs.streams.Tuples.order.Goals as goal

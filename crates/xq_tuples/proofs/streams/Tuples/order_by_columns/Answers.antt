@@ -5,7 +5,7 @@ use Rattle.std.proofs.lemmas.List.{length-map}
 use Rattle.std.proofs.lemmas.Result.{err_from_is_err_and}
 use Rattle.xq_atoms.specs.declared.refusals.Code.TheVariants.{XPTY0004}
 use Rattle.xq_atoms.specs.Compare.{Nothing}
-use Rattle.xq_regions.specs.Tuples.{sorted, key_rows, comparison_key, key_value, sort_keys}
+use Rattle.xq_trees.specs.Tuples.{sorted, key_rows, comparison_key, key_value, sort_keys}
 use Rattle.xq_tuples.specs.Keys.{by_tuple, rows_in}
 use Rattle.xq_tuples.specs.Views.{slot_items, values_of}
 use Rattle.xq_tuples.specs.private.Groups.{compared_of}

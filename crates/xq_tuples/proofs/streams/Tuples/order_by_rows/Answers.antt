@@ -3,7 +3,7 @@ use Rattle.std.specs.List.{All}
 use Rattle.std.specs.Prelude.{IfOk, IfErr}
 use Rattle.std.proofs.lemmas.List.{length-map}
 use Rattle.xq_atoms.specs.Answers.{IsRefusal}
-use Rattle.xq_regions.specs.Tuples.{ordered}
+use Rattle.xq_trees.specs.Tuples.{ordered}
 use Rattle.xq_tuples.specs.Keys.{row_of, rows_in}
 use Rattle.xq_tuples.specs.Orders.{rule_of}
 use Rattle.xq_tuples.proofs.Columns.{all_as_long}

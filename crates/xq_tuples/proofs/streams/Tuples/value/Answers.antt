@@ -1,6 +1,6 @@
 use Rattle.std.proofs.Common.{◌<◌, length, ap, sym, ◌∙◌, arith}
 use Rattle.std.proofs.lemmas.List.{length-map}
-use Rattle.xq_regions.specs.Tuples.{value_at}
+use Rattle.xq_trees.specs.Tuples.{value_at}
 use Rattle.xq_tuples.specs.Views.{slot_items}
 use Rattle.xq_tuples.proofs.Copies.{value_read}
 use Rattle.xq_tuples.proofs.streams.Tuples.value.Goals as goal

@@ -1,6 +1,0 @@
-use Rattle.std.proofs.Common.{◌≡◌, map, take}
-use Rattle.xq_regions.specs.Items.{Place, item_views}
-use Rattle.xq_forms.proofs.nodes.as_items.Given as goal
-
-abbrev pub invariant-loop-node : goal.invariant-loop-node
-invariant-loop-node l = item_views l.items ≡ map Place (take l.node-index l.nodes)

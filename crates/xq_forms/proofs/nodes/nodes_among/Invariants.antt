@@ -1,7 +1,0 @@
-use Rattle.std.proofs.Common.{◌≡◌, map, take}
-use Rattle.xq_regions.specs.Items.{item_view}
-use Rattle.xq_forms.specs.Nodes.{nodes_among}
-use Rattle.xq_forms.proofs.nodes.nodes_among.Given as goal
-
-abbrev pub invariant-loop-item : goal.invariant-loop-item
-invariant-loop-item l = l.nodes.items ≡ nodes_among (map item_view (take l.item-index l.items))

@@ -1,4 +1,0 @@
-pub mod Naming
-pub mod Order
-pub mod Places
-pub mod Runs

@@ -1,0 +1,10 @@
+use Rattle.std.proofs.Common.{◌≡◌, [], ◌∷◌, ap, sym, subst, Ok, rules}
+use Rattle.xq_atoms.specs.Atom.{Integer}
+use Rattle.xq_trees.specs.Items.{Value, item_views}
+use Rattle.xq_meaning.specs.Readings.{items_at, AreIn}
+use Rattle.xq_operators.proofs.values.integer.Goals as goal
+
+pub returns : goal.returns
+returns c = λ trees.
+    let items : item_views c.in_ok-single.field-0 ≡ Value (Integer c.args.value) ∷ [] = search rules in
+    (subst (AreIn trees) (sym items) (tt, tt), ap (λ xs. (Ok (items_at trees xs), trees)) (sym items))

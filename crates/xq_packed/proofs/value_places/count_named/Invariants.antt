@@ -1,0 +1,13 @@
+use Rattle.std.proofs.Common.{◌≡◌, ◌≤◌, length}
+use Rattle.xq_atoms.specs.Text.{Text}
+use Rattle.xq_packed.specs.Packed.{IsNumberOf}
+use Rattle.xq_packed.specs.Values.{is_named}
+use Rattle.xq_packed.proofs.Places.{places_before}
+use Rattle.xq_packed.proofs.value_places.count_named.Given as goal
+
+-- of the rows so far they are counted
+abbrev pub invariant-loop-at : goal.invariant-loop-at
+invariant-loop-at l = record {
+  few : l.count ≤ l.at;
+  counted : (name : Text) → IsNumberOf l.rows.names l.number name → l.count ≡ length (places_before (is_named name) l.rows.rows l.at);
+}

@@ -1,2 +1,0 @@
-pub mod Legible
-pub mod Results

@@ -1,7 +1,0 @@
-use Rattle.std.proofs.Common.{◌∷◌, refl}
-use Rattle.xq_regions.specs.Beside.{root_row, lowered_rows}
-use Rattle.xq_regions.proofs.Beside.{are-rows-rooted}
-use Rattle.xq_regions.proofs.laws.roots_make_trees.Goals as goal
-
-pub returns : goal.returns
-returns c = λ root ts meet. are-rows-rooted root ts (root_row root ts ∷ lowered_rows ts) meet refl

@@ -1,5 +1,0 @@
-use Rattle.xq_regions.proofs.Subtrees.{subtrees_are_trees}
-use Rattle.xq_regions.proofs.laws.subtrees_are_trees.Goals as goal
-
-pub returns : goal.returns
-returns c = subtrees_are_trees

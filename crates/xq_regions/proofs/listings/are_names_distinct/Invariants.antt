@@ -1,7 +1,0 @@
-use Rattle.std.proofs.Common.{ℕ, ◌≡◌, ◌<◌, map}
-use Rattle.xq_regions.specs.Rows.{row_of}
-use Rattle.xq_regions.specs.private.Checks.{IsNamedAt}
-use Rattle.xq_regions.proofs.listings.are_names_distinct.Given as goal
-
-abbrev pub invariant-loop-at : goal.invariant-loop-at
-invariant-loop-at l = (l.rows ≡ l.fn.rows) × ((i : ℕ) → i < l.at → IsNamedAt (map row_of l.fn.rows) i)

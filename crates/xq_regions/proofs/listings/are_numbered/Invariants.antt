@@ -1,6 +1,0 @@
-use Rattle.std.proofs.Common.{take}
-use Rattle.xq_regions.specs.Rows.{AreNumbered}
-use Rattle.xq_regions.proofs.listings.are_numbered.Given as goal
-
-abbrev pub invariant-loop-at : goal.invariant-loop-at
-invariant-loop-at l = AreNumbered 0 (take l.at l.rows)

@@ -1,7 +1,0 @@
-use Rattle.sqlite.specs.Steps.{over_memory}
-use Rattle.sqlite.proofs.Callers.{memory_is_clean}
-use Rattle.xq_rows.proofs.Calls.{clean_now}
-use Rattle.xq_rows.proofs.laws.memory_is_clean.Goals as goal
-
-pub returns : goal.returns
-returns c = clean_now over_memory c.args.store.now (memory_is_clean c.args.store.now)

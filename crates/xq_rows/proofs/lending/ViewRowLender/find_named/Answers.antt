@@ -1,5 +1,0 @@
-use Rattle.xq_rows.proofs.Lends.{found_more}
-use Rattle.xq_rows.proofs.lending.ViewRowLender.find_named.Goals as goal
-
-pub invariant_of-self : goal.invariant_of-self
-invariant_of-self g c = found_more g.S.Store g.O.Origin.beginning _ _ c.find_in_front.new.fronts.items _ c.self.invariant c.find_in_front.ensures _

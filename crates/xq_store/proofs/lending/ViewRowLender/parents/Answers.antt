@@ -1,0 +1,14 @@
+use Rattle.std.proofs.Common.{sym, subst}
+use Rattle.xq_trees.specs.Rows.{rows}
+use Rattle.xq_sources.specs.Parents.{AreParents}
+use Rattle.xq_sources.specs.Sources.{tree_at as nth_tree}
+use Rattle.xq_store.specs.Documents.{IsClean}
+use Rattle.xq_store.specs.Views.{Viewed, trees_under}
+use Rattle.xq_store.proofs.lending.ViewRowLender.parents.Goals as goal
+
+pub returns : goal.returns
+returns g c = λ clean.
+    let b = g.O.Origin.beginning in
+    let was = subst (λ (w : Viewed _). IsClean g.S.Store w.store) (sym c.self.view_is) clean.0 in
+    subst (λ (w : Viewed _). AreParents (rows (nth_tree (trees_under b w.addresses) c.args.tree)) c.parents_in.result.now) c.self.view_is
+    (c.parents_in.ensures _ (c.self.invariant.rows was clean.1))

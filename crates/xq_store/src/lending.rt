@@ -1,0 +1,72 @@
+//! What a view lends: rows that are kept in memory, read on where they are wanted.
+
+use crate::fronts::{
+    NO_ROWS, RowRange, find_in_front, find_values_in, kept_run, named_in, parent_of, parents_in,
+    read_on, valued_in,
+};
+use crate::shelves::cached_rows;
+use crate::views::{Origin, View};
+use sqlite::Alter;
+use std::alloc::Global;
+use xq_atoms::Want;
+use xq_sources::{LentRows, RowLender, count_attributes};
+
+impl<S: Alter, O: Origin> RowLender for View<S, O> {
+    ghost lent = { λ v. v.lent };
+
+    fn fetch(&mut self, alloc: Global, tree: usize, low: u32, high: u32) -> Result<(), Want> {
+        self.run = NO_ROWS;
+        read_on(alloc, &mut self.store, &mut self.shelf, tree, low)?;
+        self.run = RowRange { tree, low, high };
+        let count = kept_run(&self.shelf.fronts, self.run).len();
+        self.meter = self.meter.with_rows(count);
+        Ok(())
+    }
+
+    fn fetch_row(&mut self, alloc: Global, tree: usize, node: u32) -> Result<(), Want> {
+        self.run = NO_ROWS;
+        read_on(alloc, &mut self.store, &mut self.shelf, tree, node)?;
+        if node as usize >= cached_rows(&self.shelf.fronts, tree).len() {
+            return Err(Want::Store);
+        }
+        self.run = RowRange {
+            tree,
+            low: node,
+            high: node,
+        };
+        self.meter = self.meter.with_singles(1);
+        Ok(())
+    }
+
+    fn parent(&self, tree: usize, node: u32) -> Option<u32> {
+        parent_of(&self.shelf, tree, node)
+    }
+
+    fn parents(&self, tree: usize) -> &[u32] {
+        parents_in(&self.shelf, tree)
+    }
+
+    fn attributes(&self, tree: usize, node: u32) -> Option<u32> {
+        count_attributes(&cached_rows(&self.shelf.fronts, tree), node)
+    }
+
+    fn find_named(&mut self, alloc: Global, tree: usize, name: &str) {
+        find_in_front(alloc, &mut self.shelf.fronts, tree, name);
+    }
+
+    fn named(&self, tree: usize, name: &str) -> Option<&[u32]> {
+        named_in(&self.shelf, tree, name)
+    }
+
+    fn find_values(&mut self, alloc: Global, tree: usize, name: &str) {
+        find_values_in(alloc, &mut self.shelf.fronts, tree, name);
+    }
+
+    fn valued(&self, tree: usize, name: &str, value: &str) -> Option<&[u32]> {
+        valued_in(&self.shelf, tree, name, value)
+    }
+
+    fn lent(&self) -> LentRows<'_> {
+        kept_run(&self.shelf.fronts, self.run)
+    }
+}

@@ -1,0 +1,278 @@
+//! What a store keeps in memory of its documents: their addresses, and of each the first rows.
+ghost use Rattle.std.specs.Prelude.{◌≡◌, ◌<◌, [], List, Some, IfOk, IfSome, IsTrue, length, map, slice_get};
+ghost use Rattle.std.specs.List.{enumerate_from, insert, remove, slice_set as set};
+ghost use Rattle.xq_sources.specs.Addresses.{IsGap};
+ghost use Rattle.xq_trees.specs.Rows.{placed_rows};
+ghost use Rattle.xq_trees.specs.Tree.{Tree};
+ghost use Rattle.xq_store.specs.private.Shelves.{AreFronts, AreKeptOf, HasDropped, HasPut, IsFront, IsFrontOf, front_at, kept_rows};
+
+use std::alloc::Global;
+use std::collections::HashMap;
+use std::rc::Rc;
+use xq_atoms::Want;
+use xq_packed::{PackedRows, PackedTree};
+use xq_sources::{Addresses, Guide, LentRows, NameIndex, Values, find_named, find_values};
+
+/// What is kept of a document: its first rows, and what was found among them.
+#[derive(Drop)]
+pub(crate) struct CachedDocument {
+    pub rows: PackedRows,
+    /// Where parents lie among them.
+    pub guide: Guide,
+    /// The places of its elements by their names, of names that were looked for while all rows were
+    /// here.
+    pub names: NameIndex,
+    /// The places of its attributes in the order of their values, of names that were looked for
+    /// while all rows were here.
+    pub values: Values,
+    /// When they were wanted last, by the clock of the shelf.
+    pub wanted: u64,
+}
+
+/// The addresses of the documents of a store, in the order of their bytes, and at the same place
+/// the first rows of each document.
+#[derive(Drop)]
+pub(crate) struct Cache {
+    pub addresses: Rc<Addresses>,
+    pub fronts: Vec<CachedDocument>,
+    /// How many bytes that are in all.
+    pub kept: usize,
+    /// How often rows were wanted that had to be read, or a document came with its rows.
+    pub clock: u64,
+    /// Whether the store may keep this when its view ends.
+    pub stays: bool,
+}
+
+impl CachedDocument {
+    /// No row yet.
+    pub fn new(alloc: Global) -> CachedDocument
+        ensures { (t : Tree) → IsFrontOf t result }
+    {
+        CachedDocument {
+            rows: PackedRows::new(alloc),
+            guide: Guide::new(alloc),
+            names: HashMap::new(alloc),
+            values: HashMap::new(alloc),
+            wanted: 0,
+        }
+    }
+
+    /// All rows of a document, wanted at a time. Where memory is short they are without a guide.
+    pub fn whole(alloc: Global, document: PackedTree, wanted: u64) -> CachedDocument
+        ensures { IsFrontOf document result }
+    {
+        let rows = document.into_rows();
+        let mut guide = Guide::new(alloc);
+        let _ = guide.read_on(&all_of(&rows));
+        CachedDocument {
+            rows,
+            guide,
+            names: HashMap::new(alloc),
+            values: HashMap::new(alloc),
+            wanted,
+        }
+    }
+
+    /// How many bytes are kept at most: rows with their values, and of each row the place of its
+    /// parent, and its place among those of its name.
+    pub fn bytes(&self) -> usize {
+        self.rows
+            .bytes()
+            .saturating_add(self.rows.len().saturating_mul(8))
+    }
+
+    /// The rows, lent.
+    pub fn lent(&self) -> LentRows<'_>
+        ensures { result ≡ kept_rows self.now }
+    {
+        all_of(&self.rows)
+    }
+
+    /// Looks for the elements with the name, where these are all rows of the document, so that
+    /// their places can be told.
+    pub fn find_named(&mut self, alloc: Global, name: &str)
+        ensures { (t : Tree) → IsFrontOf t self.old → IsFrontOf t self.new }
+    {
+        let rows = all_of(&self.rows);
+        if are_whole(&rows) {
+            find_named(alloc, &mut self.names, &rows, name);
+        }
+    }
+
+    /// The same of the attributes with the name.
+    pub fn find_values(&mut self, alloc: Global, name: &str)
+        ensures { (t : Tree) → IsFrontOf t self.old → IsFrontOf t self.new }
+    {
+        if !are_whole(&all_of(&self.rows)) {
+            return;
+        }
+        find_values(alloc, &mut self.values, &self.rows, name);
+    }
+}
+
+/// Packed rows, lent.
+pub(crate) fn all_of(rows: &PackedRows) -> LentRows<'_>
+    ensures { result ≡ enumerate_from 0 rows.now.rows }
+{
+    LentRows::packed(rows, 0, rows.len())
+}
+
+/// Whether the first rows of a document are all that it has.
+pub(crate) fn are_whole(rows: &LentRows<'_>) -> bool
+    ensures { IsTrue result → (t : Tree) → IsFront t rows.now → rows.now ≡ placed_rows t }
+{
+    let Some(root) = rows.get(0) else {
+        return false;
+    };
+    root.size as usize + 1 == rows.len()
+}
+
+/// The time by the clock of what is kept.
+pub(crate) fn time_of(shelf: &Option<Cache>) -> u64 {
+    match shelf {
+        Some(shelf) => shelf.clock,
+        None => 0,
+    }
+}
+
+/// The rows that are kept of the document of an address, which are its first.
+pub(crate) fn kept_of<'a>(shelf: &'a Option<Cache>, address: &str) -> LentRows<'a>
+    ensures { AreKeptOf shelf.now address.now result }
+{
+    let Some(shelf) = shelf else {
+        return LentRows::new(&[]);
+    };
+    match shelf.addresses.search(address) {
+        Ok(place) => cached_rows(&shelf.fronts, place),
+        Err(_) => LentRows::new(&[]),
+    }
+}
+
+/// The rows of a document that are kept, by its place.
+pub(crate) fn cached_rows(fronts: &[CachedDocument], place: usize) -> LentRows<'_>
+    ensures { result ≡ front_at fronts.now place }
+{
+    match fronts.get(place) {
+        Some(front) => front.lent(),
+        None => LentRows::new(&[]),
+    }
+}
+
+/// The address with this number.
+pub(crate) fn address_at(addresses: &Addresses, tree: usize) -> Option<&str>
+    ensures { IfSome result (λ address. slice_get addresses.now tree ≡ Some address.now) }
+{
+    let address = addresses.as_slice().get(tree)?;
+    Some(address.as_str())
+}
+
+/// Fronts without a row, so many.
+fn no_rows(alloc: Global, count: usize) -> Result<Vec<CachedDocument>, Want>
+    ensures { IfOk result (λ fronts. (trees : List Tree) → length trees ≡ count
+        → AreFronts trees fronts.items) }
+{
+    let mut fronts = Vec::with_capacity(alloc, count)?;
+    for made in 0..count {
+        fronts.push(CachedDocument::new(alloc))?;
+    }
+    Ok(fronts)
+}
+
+impl Cache {
+    /// No address. Where memory is short there is none.
+    pub fn empty(alloc: Global) -> Option<Cache>
+        ensures { IfSome result (λ shelf.
+            (shelf.addresses.value ≡ []) × (shelf.fronts.items ≡ [])) }
+    {
+        Some(Cache {
+            addresses: Rc::new(alloc, Addresses::new(alloc)).ok()?,
+            fronts: Vec::new(alloc),
+            kept: 0,
+            clock: 0,
+            stays: true,
+        })
+    }
+
+    /// These addresses, with no row of a document.
+    pub fn unread(alloc: Global, addresses: Addresses) -> Result<Cache, Want>
+        ensures addresses { IfOk result (λ shelf. shelf.addresses.value ≡ addresses) }
+        ensures fronts { IfOk result (λ shelf. (trees : List Tree)
+            → length trees ≡ length addresses → AreFronts trees shelf.fronts.items) }
+    {
+        let fronts = no_rows(alloc, addresses.as_slice().len())?;
+        Ok(Cache {
+            addresses: Rc::new(alloc, addresses)?,
+            fronts,
+            kept: 0,
+            clock: 0,
+            stays: true,
+        })
+    }
+
+    /// The shelf after a put: the front is that of the address, which is added where it was absent.
+    /// Where memory is short there is none.
+    pub fn with_document(self, address: &str, front: CachedDocument) -> Option<Cache>
+        ensures { IfSome result (λ later. HasPut self later address.now front) }
+    {
+        match self.addresses.search(address) {
+            Ok(place) => self.replaced(place, front),
+            Err(place) => self.added(place, address, front),
+        }
+    }
+
+    /// The shelf after a drop. Where memory is short there is none.
+    pub fn without_document(self, address: &str) -> Option<Cache>
+        ensures { IfSome result (λ later. HasDropped self later address.now) }
+    {
+        match self.addresses.search(address) {
+            Ok(place) => self.removed(place),
+            Err(_) => Some(self),
+        }
+    }
+
+    /// The shelf with another front at a place.
+    fn replaced(mut self, place: usize, front: CachedDocument) -> Option<Cache>
+        ensures { IfSome result (λ later. (later.addresses.value ≡ self.addresses.value)
+            × (later.fronts.items ≡ set self.fronts.items place front)) }
+    {
+        let old = self.fronts.get_mut(place)?;
+        let fewer = self.kept.saturating_sub(old.bytes());
+        self.kept = fewer.saturating_add(front.bytes());
+        *old = front;
+        Some(self)
+    }
+
+    /// The shelf with one address more.
+    fn added(mut self, place: usize, address: &str, front: CachedDocument) -> Option<Cache>
+        requires { IsGap self.addresses.value place address.now }
+        ensures { IfSome result (λ later.
+            (later.addresses.value ≡ insert self.addresses.value place address.now)
+            × (later.fronts.items ≡ insert self.fronts.items place front)) }
+    {
+        if place > self.fronts.len() {
+            return None;
+        }
+        let addresses = Rc::get_mut(&mut self.addresses)?;
+        addresses.insert(place, address).ok()?;
+        self.kept = self.kept.saturating_add(front.bytes());
+        self.fronts.insert(place, front).ok()?;
+        Some(self)
+    }
+
+    /// The shelf without the document at a place.
+    fn removed(mut self, place: usize) -> Option<Cache>
+        requires { place < length self.addresses.value }
+        ensures { IfSome result (λ later.
+            (later.addresses.value ≡ remove self.addresses.value place)
+            × (later.fronts.items ≡ remove self.fronts.items place)) }
+    {
+        if place >= self.fronts.len() {
+            return None;
+        }
+        let addresses = Rc::get_mut(&mut self.addresses)?;
+        addresses.remove(place);
+        let front = self.fronts.remove(place);
+        self.kept = self.kept.saturating_sub(front.bytes());
+        Some(self)
+    }
+}

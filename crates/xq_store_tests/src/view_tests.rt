@@ -1,0 +1,194 @@
+//! Views one after another: what they give and lend of two documents, and the places of names and
+//! of values that they tell, which are those of what the store holds then.
+
+use crate::asserts::none_is_wrong;
+use crate::calls::Call;
+use crate::documents::Document::Long;
+use crate::documents::{EMPTY, GREAT, LIBRARY, RENUMBERED, TURNED};
+use crate::loans::Look;
+use crate::stores::in_memory;
+use crate::views::{Step, Task, wrong_step};
+use xq_atoms::Want;
+use xq_store::Put;
+
+/// Two documents are stored, and the one that was stored last stands first. What a view of both
+/// gives back is the store with both, which takes documents again.
+const BOTH: [Step; 2] = [
+    (
+        &[
+            Call::Put("b", LIBRARY, Put::Stored),
+            Call::Put("B", EMPTY, Put::Stored),
+        ],
+        Task::Both,
+    ),
+    (
+        &[
+            Call::List(&["B", "b"]),
+            Call::Load("b", Some(LIBRARY)),
+            Call::Put("b", EMPTY, Put::Replaced),
+            Call::Load("b", Some(EMPTY)),
+        ],
+        Task::Names(&[]),
+    ),
+];
+
+/// The places of a name are told once it was looked for among all rows, where there are some: also
+/// in later views, and until another document is put.
+const NAMES: [Step; 4] = [
+    (
+        &[Call::Put("b", LIBRARY, Put::Stored)],
+        Task::Names(&[
+            (0, Look::Find("book")),
+            (0, Look::Told("book", None)),
+            (0, Look::Read),
+            (0, Look::Told("book", None)),
+            (0, Look::Find("book")),
+            (0, Look::Told("book", Some(&[2, 5]))),
+            (0, Look::Told("lib", None)),
+            (0, Look::Find("id")),
+            (0, Look::Told("id", None)),
+            (0, Look::Find("shelf")),
+            (0, Look::Told("shelf", None)),
+            (1, Look::Find("book")),
+            (1, Look::Told("book", None)),
+        ]),
+    ),
+    (
+        &[Call::Put("B", EMPTY, Put::Stored)],
+        Task::Names(&[
+            (1, Look::Told("book", Some(&[2, 5]))),
+            (1, Look::Find("lib")),
+            (1, Look::Told("lib", Some(&[1]))),
+            (0, Look::Read),
+            (0, Look::Find("book")),
+            (0, Look::Told("book", None)),
+        ]),
+    ),
+    (
+        &[Call::Put("b", TURNED, Put::Replaced)],
+        Task::Names(&[
+            (1, Look::Told("book", None)),
+            (1, Look::Told("lib", None)),
+            (1, Look::Read),
+            (1, Look::Find("book")),
+            (1, Look::Find("lib")),
+            (1, Look::Told("book", Some(&[1]))),
+            (1, Look::Told("lib", Some(&[2, 3]))),
+        ]),
+    ),
+    (&[], Task::Names(&[(1, Look::Told("lib", Some(&[2, 3])))])),
+];
+
+/// The places of a value are told once its name was looked for among all rows, where there are
+/// some: also in later views, and until another document is put.
+const VALUES: [Step; 4] = [
+    (
+        &[Call::Put("b", LIBRARY, Put::Stored)],
+        Task::Names(&[
+            (0, Look::FindValues("id")),
+            (0, Look::Valued("id", "1", None)),
+            (0, Look::Read),
+            (0, Look::Valued("id", "1", None)),
+            (0, Look::FindValues("id")),
+            (0, Look::Valued("id", "1", Some(&[3]))),
+            (0, Look::Valued("id", "2", Some(&[6]))),
+            (0, Look::Valued("id", "3", Some(&[]))),
+            (0, Look::Valued("id", "", Some(&[]))),
+            (0, Look::FindValues("book")),
+            (0, Look::Valued("book", "", None)),
+            (0, Look::FindValues("shelf")),
+            (0, Look::Valued("shelf", "1", None)),
+            (1, Look::FindValues("id")),
+            (1, Look::Valued("id", "1", None)),
+        ]),
+    ),
+    (
+        &[Call::Put("B", EMPTY, Put::Stored)],
+        Task::Names(&[
+            (1, Look::Valued("id", "2", Some(&[6]))),
+            (0, Look::Read),
+            (0, Look::FindValues("id")),
+            (0, Look::Valued("id", "2", None)),
+        ]),
+    ),
+    (
+        &[Call::Put("b", RENUMBERED, Put::Replaced)],
+        Task::Names(&[
+            (1, Look::Valued("id", "2", None)),
+            (1, Look::Read),
+            (1, Look::FindValues("id")),
+            (1, Look::Valued("id", "1", Some(&[]))),
+            (1, Look::Valued("id", "2", Some(&[2, 4]))),
+        ]),
+    ),
+    (
+        &[],
+        Task::Names(&[(1, Look::Valued("id", "2", Some(&[2, 4])))]),
+    ),
+];
+
+/// Of the great library more is there than is read at once.
+const PART: [Step; 1] = [(
+    &[Call::Put("a", GREAT, Put::Stored)],
+    Task::Names(&[
+        (0, Look::Begin),
+        (0, Look::Find("lib")),
+        (0, Look::Told("lib", None)),
+        (0, Look::Read),
+        (0, Look::Told("lib", None)),
+        (0, Look::Find("lib")),
+        (0, Look::Told("lib", Some(&[1]))),
+    ]),
+)];
+
+/// What is kept of a small document stays beside another of few rows and long values, and is
+/// forgotten for a longer one.
+const ROOM: [Step; 3] = [
+    (
+        &[Call::HandOver("a", LIBRARY, Put::Stored)],
+        Task::Names(&[
+            (0, Look::Find("book")),
+            (0, Look::Told("book", Some(&[2, 5]))),
+        ]),
+    ),
+    (
+        &[Call::HandOver("b", Long(64), Put::Stored)],
+        Task::Names(&[(0, Look::Told("book", Some(&[2, 5])))]),
+    ),
+    (
+        &[Call::HandOver("b", Long(130), Put::Replaced)],
+        Task::Names(&[
+            (0, Look::Told("book", None)),
+            (0, Look::Find("book")),
+            (0, Look::Told("book", None)),
+            (0, Look::Read),
+            (0, Look::Find("book")),
+            (0, Look::Told("book", Some(&[2, 5]))),
+        ]),
+    ),
+];
+
+/// The steps, each list for a new store.
+const LISTS: [&[Step]; 4] = [&BOTH, &NAMES, &VALUES, &PART];
+
+#[test]
+fn views(rt: HostRuntime) -> Result<(), Want> {
+    for (number, steps) in LISTS.iter().enumerate() {
+        none_is_wrong(
+            &rt,
+            wrong_step(rt.alloc(), in_memory(rt.alloc())?, steps)?,
+            number,
+        );
+    }
+    Ok(())
+}
+
+#[test]
+fn room_for_long_values(rt: HostRuntime) -> Result<(), Want> {
+    none_is_wrong(
+        &rt,
+        wrong_step(rt.alloc(), in_memory(rt.alloc())?, &ROOM)?,
+        0,
+    );
+    Ok(())
+}

@@ -1,8 +1,0 @@
-use Rattle.std.proofs.Common.{not, ap, ◌∙◌}
-use Rattle.xq_stores.proofs.Opened.{left_in}
-use Rattle.xq_stores.proofs.disk_stores.close_store.Goals as goal
-
-pub returns-in-Ok : goal.returns-in-Ok
-returns-in-Ok g c clean =
-    let outside = c.is_autocommit-settled.ensures.value ∙ ap not c.release-conn.ensures.outside in
-    left_in c.release-conn.result c.args.store c.release-conn.ensures.same c.in-Ok.files (c.in-Ok.ensures.copied clean) (c.is_autocommit-settled.ensures.settled outside)

@@ -1,0 +1,15 @@
+use Rattle.std.proofs.Common.{◌≡◌, ◌≤◌, length, drop, map}
+use Rattle.xq_trees.specs.Rows.{AreNumbered}
+use Rattle.xq_trees.specs.Levels.{flat_row}
+use Rattle.xq_trees.proofs.levels.set_places.Given as goal
+
+abbrev pub invariant-loop-at : goal.invariant-loop-at
+invariant-loop-at l = record {
+  within : l.at ≤ length l.rows;
+  numbered : AreNumbered l.at (drop l.at l.rows);
+  same : map flat_row l.rows ≡ map flat_row l.fn.rows;
+  long : length l.rows ≡ length l.fn.rows;
+}
+
+abbrev pub decreases-loop-at : goal.decreases-loop-at
+decreases-loop-at l = l.at

@@ -1,0 +1,6 @@
+use Rattle.std.specs.Prelude.{codes}
+use Rattle.xq_trees.proofs.Texts.{contains-holds}
+use Rattle.xq_trees.proofs.values.holds_two_dashes.Goals as goal
+
+pub returns : goal.returns
+returns c = contains-holds c.contains.result (codes "--") c.args.text.now c.contains.ensures.cases
