@@ -2,7 +2,8 @@
 
 from collections.abc import Mapping
 
-from rows import queries as form
+from rows import forms as form
+from rows.queries import tree
 from rows.terms import Term, is_plain, quoted, written
 from rows.tokens import Name
 
@@ -70,7 +71,7 @@ def node_of(constructor: form.Form) -> Term:
 
 def tree_of(text: str) -> Term:
     """The term of the document that a constructor's text gives."""
-    document = form.tree(text)
+    document = tree(text)
     assert isinstance(document, form.Unnamed), document
     return ("tree", list(map(node_of, parts_of(document.content))))
 

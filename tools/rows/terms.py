@@ -9,7 +9,8 @@ import re
 from collections.abc import Callable, Iterable
 from typing import Any, TypeAlias
 
-from rows import queries as form
+from rows import forms as form
+from rows.queries import tree
 from rows.tokens import Name, Refused
 
 # A word or a quoted text, an application, or a list.
@@ -30,7 +31,7 @@ MODIFIERS = {(False, False): "ascending", (True, False): "descending",
 
 def meaning(text: str) -> Term:
     """The term of what the query of this text means; Refused where it is no query."""
-    return term(form.tree(text))
+    return term(tree(text))
 
 
 def written(given: Term, is_argument: bool = False) -> str:
