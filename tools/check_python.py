@@ -1,12 +1,12 @@
 #!/usr/bin/env python3
 """Checks types and style of the Python files of this repository.
 
-    tools/check_python.py [--all]
+    tools/check_python.py
 
-mypy runs in the root over tools/ and bench/, and in clients/python over the client, each time with
-the pyproject.toml of that folder. pycodestyle and pyflakes go over tools/ and bench/, with --all
-over the client too; a line with `# noqa` stays as it is. A check whose program is not installed is
-left out by name. The status is 1 where there is a finding.
+mypy runs in the root over tools/ and bench/, and in clients/python over the client and its tests,
+each time with the pyproject.toml of that folder. pycodestyle and pyflakes go over all of these; a
+line with `# noqa` stays as it is. A check whose program is not installed is left out by name. The
+status is 1 where there is a finding.
 """
 
 from __future__ import annotations
@@ -37,21 +37,20 @@ class Check:
     folder: pathlib.Path
 
 
-def checks(top: pathlib.Path, with_client_style: bool) -> list[Check]:
+def checks(top: pathlib.Path) -> list[Check]:
     """The checks of the repository in this folder."""
     client = top / "clients" / "python"
     cache = ("--cache-dir", str(top / "out" / "mypy"))
     style = (f"--ignore={ALLOWED}", "--max-line-length=100")
-    found = [
+    return [
         Check(("mypy",), cache, top),
-        Check(("mypy",), (*cache, "src"), client),
+        Check(("mypy",), (*cache, "src", "tests"), client),
+        Check(("mypy",), (*cache, "with_packages"), client),
         Check(("pycodestyle",), (*style, "tools", "bench"), top),
         Check(PYFLAKES, ("tools", "bench"), top),
+        Check(("pycodestyle",), (*style, "."), client),
+        Check(PYFLAKES, (".",), client),
     ]
-    if with_client_style:
-        found += [Check(("pycodestyle",), (*style, "."), client),
-                  Check(PYFLAKES, (".",), client)]
-    return found
 
 
 def program_of(check: Check) -> str | None:
@@ -84,12 +83,10 @@ def findings(check: Check, program: str) -> list[str]:
 
 def main() -> int:
     """Runs the checks that are there and prints what they find."""
-    parser = argparse.ArgumentParser(description=__doc__.partition("\n")[0])
-    parser.add_argument("--all", action="store_true", help="the style of the client too")
-    given = parser.parse_args()
+    argparse.ArgumentParser(description=__doc__.partition("\n")[0]).parse_args()
     found: list[str] = []
     absent: set[str] = set()
-    for check in checks(TOP, given.all):
+    for check in checks(TOP):
         program = program_of(check)
         if program is None:
             absent.add(check.programs[0])

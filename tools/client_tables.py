@@ -222,8 +222,8 @@ NO_CALLS = frozenset((
 GRAMMAR = r"""
 {table}
 """
-"""The grammar, one production a line, which may go on with an indent; \
-docs/LANGUAGE.md says what its tokens are."""
+"""The grammar, one production a line, which may go on with an indent; docs/LANGUAGE.md says what
+its tokens are."""
 '''
 
 

@@ -96,8 +96,8 @@ def _lost(history: History, last: Mapping[bytes, bytes]) -> list[str]:
     found = []
     for address, writes in by_address.items():
         known = [number for number, it in enumerate(writes) if it.is_acknowledged]
-        may_be = writes[known[-1]:] if known else [*writes, None]
-        values = {it.value if it else 0 for it in may_be}
+        values = {it.value for it in (writes[known[-1]:] if known else writes)}
+        values |= set() if known else {0}
         value = number_of(last.get(address, b""))
         if value not in values:
             found.append(f"{address!r} is {value}, and not one of {sorted(values)}")

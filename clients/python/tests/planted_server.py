@@ -7,16 +7,16 @@ carried out and answered as if it had been another; at one to that of `end` the 
 import struct
 import subprocess
 import sys
-from typing import BinaryIO
+from typing import IO
 
 
-def read_message(stream: BinaryIO) -> bytes | None:
+def read_message(stream: IO[bytes]) -> bytes | None:
     """The next message; None at the end."""
     head = stream.read(4)
     return stream.read(struct.unpack(">I", head)[0]) if len(head) == 4 else None
 
 
-def write_message(stream: BinaryIO, message: bytes) -> None:
+def write_message(stream: IO[bytes], message: bytes) -> None:
     """Writes a message."""
     stream.write(struct.pack(">I", len(message)) + message)
     stream.flush()

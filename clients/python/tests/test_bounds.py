@@ -191,7 +191,6 @@ class Sockets(BoundTest):
             with self.within(2):
                 self.assertEqual(client.query("1", timeout=30), [1])
 
-
     def test_a_client_that_goes_ends_its_query(self) -> None:
         with RunningMux() as mux, connect(mux.place) as stays:
             stays.store("a", LIBRARY)

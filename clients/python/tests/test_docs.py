@@ -5,7 +5,7 @@ import re
 
 from tests.support import TOP, FolderTest, server_command
 from xqs.cli import COMMANDS
-from xqs.session import COMMANDS as DOTS
+from xqs.shell_texts import COMMANDS as DOTS
 
 PAGE = (TOP / "docs" / "CLIENTS.md").read_text()
 

@@ -2,6 +2,7 @@
 
 import os
 import random
+import re
 from collections.abc import Iterator
 from pathlib import Path
 from xml.etree import ElementTree
@@ -18,13 +19,17 @@ FILES = Path(os.environ.get("XQS_XML_FILES", "/usr/share"))
 """The folder whose XML files are tried."""
 SAMPLE = 60
 """So many files are tried where not all are."""
+COMMENT_IN_DOCTYPE = re.compile(rb"<!DOCTYPE[^>\[]*\[[^\]]*(<!--|<\?)")
+"""Python's canonicalizer takes such comments and instructions for nodes, which they aren't;
+with_packages/test_xml_files.py compares such files with libxml2."""
 SMALL = 60_000
 """The files of the sample have so many bytes at most."""
 
 
 def files() -> list[Path]:
     """The XML files below the folder."""
-    return sorted(it for it in FILES.rglob("*.xml") if it.is_file() and os.access(it, os.R_OK))
+    found = (it for it in FILES.rglob("*.xml") if it.is_file() and os.access(it, os.R_OK))
+    return sorted(it for it in found if not COMMENT_IN_DOCTYPE.search(it.read_bytes()))
 
 
 class RoundTrips(ServerTest):
@@ -120,4 +125,3 @@ class NoFile(FolderTest):
                 constructor(text, XmlChoices(entities=True))
             text = f'<!DOCTYPE a SYSTEM "{place}"><a/>'
             self.assertEqual(constructor(text), "document {element a {}}")
-

@@ -8,6 +8,7 @@ import subprocess
 import sys
 import time
 import unittest
+from collections.abc import Callable, Iterator
 from contextlib import redirect_stderr
 from pathlib import Path
 
@@ -186,8 +187,10 @@ class Commands(CommandTest):
             status, _, said = self.run_command("store", address, path)
             self.assertEqual((status, "which is kept for parts" in said), (1, True))
         with connect(server_command()) as client:
-            for store in (client.store, client.store_later,
-                          lambda at, text: store_constructors(client, at, text)):
+            stores: list[Callable[[str, str], object]] = [
+                client.store, client.store_later,
+                lambda at, text: store_constructors(client, at, text)]
+            for store in stores:
                 with self.assertRaises(KeptAddress):
                     store(address, "document {}")
             with self.assertRaises(KeptAddress):
@@ -318,7 +321,7 @@ class Temporaries(ServerTest):
         path = self.folder / "x.db"
         client = connect(file_server(path))
 
-        def chunks() -> object:
+        def chunks() -> Iterator[bytes]:
             yield b"<a>"
             for _ in range(30):
                 yield b"<b>%s</b>" % (b"xyz" * 1_000) * 100
@@ -326,7 +329,7 @@ class Temporaries(ServerTest):
             yield b"</a>"
 
         with self.assertRaises(Closed):
-            store_xml(client, "x", chunks())  # type: ignore[arg-type]
+            store_xml(client, "x", chunks())
         with connect(file_server(path)) as again:
             left = again.list()
             self.assertTrue(all(it.startswith(PREFIX) for it in left), left)

@@ -1,5 +1,6 @@
 """Nothing is left running: a server that was started ends with its client, whatever ends that."""
 
+import hashlib
 import importlib.util
 import os
 import signal
@@ -8,6 +9,7 @@ import sys
 import threading
 import time
 from collections.abc import Callable
+from functools import partial
 from pathlib import Path
 
 from tests.serving import SOURCES
@@ -36,6 +38,11 @@ def running(mark: str) -> list[int]:
     return found
 
 
+def is_gone(mark: str) -> bool:
+    """Whether no process has the mark among its words."""
+    return not running(mark)
+
+
 def wait_until(is_so: Callable[[], object], what: str) -> None:
     """Waits until the function says so."""
     end = time.monotonic() + PATIENCE
@@ -57,8 +64,13 @@ class Leftovers(FolderTest):
     def commands(self) -> dict[str, list[str]]:
         """The commands that start a server, with words with which they ask it something."""
         file, folder = str(self.folder / "a.xml"), str(self.folder / "in")
-        commands = {
+        backup = self.folder / "backup"
+        document = b"document {}"
+        backup.write_bytes(b"xqs backup 1\ndocument %d %s a\n%s\nend 1\n" % (
+            len(document), hashlib.sha256(document).hexdigest().encode(), document))
+        commands: dict[str, list[str]] = {
             "query": ["1"], "store": ["a", file], "get": ["a"], "drop": ["a"], "list": [],
+            "restore": [str(backup)],
             "load": [folder, "--journal", str(self.folder / "journal")],
             "export": [str(self.folder / "out")], "backup": [str(self.folder / "b")], "gc": [],
             "shell": ["-c", "1"], "mux": [f"unix:{self.folder}/s"],
@@ -93,7 +105,7 @@ class Leftovers(FolderTest):
             mark = f"7{os.getpid()}{number}.5"
             begun[name] = (mark, self.start(name, words, self.server(name, mark, is_last)))
         for name, (mark, _) in begun.items():
-            wait_until(lambda mark=mark: running(mark), f"{name} starts no server")
+            wait_until(partial(running, mark), f"{name} starts no server")
         for one in signals:
             for _, process in begun.values():
                 process.send_signal(one)
@@ -101,7 +113,7 @@ class Leftovers(FolderTest):
         for name, (mark, process) in begun.items():
             with self.subTest(name):
                 self.assertNotEqual(process.wait(PATIENCE), 0)
-                wait_until(lambda mark=mark: not running(mark), f"{name} leaves its server")
+                wait_until(partial(is_gone, mark), f"{name} leaves its server")
 
     def test_interrupted_twice(self) -> None:
         self.ends_all(signal.SIGINT, signal.SIGINT)

@@ -37,8 +37,8 @@ from xqs.bounds import Bounds
 from xqs.trees import NoTree
 
 ARTICLE = ('document {comment {"c"}, processing-instruction p {"q r"}, '
-           'element a {attribute x {"1"}, text {"t"}, element b {}, text {"u"}, comment {"d"}, text {"v"}}, comment {"e"}, '
-           'comment {"f"}}')
+           'element a {attribute x {"1"}, text {"t"}, element b {}, text {"u"}, comment {"d"}, '
+           'text {"v"}}, comment {"e"}, comment {"f"}}')
 has_lxml = importlib.util.find_spec("lxml") is not None
 
 
@@ -117,7 +117,7 @@ class Trees(unittest.TestCase):
 
     @unittest.skipUnless(has_lxml, "it wants python3-lxml")
     def test_lxml(self) -> None:
-        from lxml import etree  # type: ignore[import-untyped,unused-ignore]
+        from lxml import etree
 
         node = self.node(ARTICLE)
         tree = node.lxml()

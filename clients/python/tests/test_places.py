@@ -10,6 +10,7 @@ import unittest
 
 from tests.support import TOP, ServerTest
 from xqs import Refused, places
+from xqs.tokens import tokens
 
 FAULTS = (
     # text, place, words; the server's code is asked
@@ -121,7 +122,6 @@ class Places(ServerTest):
                 self.assertEqual(refused(call), not takes, call)
         self.assertTrue(all(not refused(f"xs:{it}(1)") for it in places.TYPES))
 
-
     def test_each_function_of_the_page_is_known(self) -> None:
         page = (TOP / "docs" / "LANGUAGE.md").read_text()
         section = page.partition("\n## Functions\n")[2].partition("\n## ")[0]
@@ -133,7 +133,7 @@ class Places(ServerTest):
 
 def mutated(chosen: random.Random, text: str) -> str:
     """The text with a token taken away, doubled, put elsewhere or replaced."""
-    pieces = [it.text for it in places.tokens(text)]
+    pieces = [it.text for it in tokens(text)]
     other = ["for", "return", "(", ")", "$", "x", "/", "//", ",", "1", "if", "eq", "{", "}", "*",
              "text", "element", "@", "..", "::", ":=", "in", "'s'", "div", "[", "]", "child", "!"]
     for _ in range(chosen.randint(1, 2)):

@@ -16,11 +16,13 @@ from unittest import mock
 from tests.support import LIBRARY, TOP, FolderTest, ServerTest, file_server, server_command
 from xqs import connect
 from xqs.cli import main
-from xqs.session import Session, completions, is_whole
+from xqs.session import Session, completions
 from xqs.shell import word_before
+from xqs.shell_texts import is_whole
 
 
 INTERRUPT = "\x03"
+END = b"\x04"
 ENDLESS = "every $x in 1 to 1000000, $y in 1 to 1000000 satisfies $x > 0\r"
 
 
@@ -82,6 +84,24 @@ class Sessions(ServerTest):
         self.assertEqual(self.asked(".drop x b"), "dropped")
         self.assertIn("prof:ABSENT", self.asked(".drop x"))
 
+    def test_drop_by_pattern(self) -> None:
+        def stored() -> None:
+            for address in ("p/1", "p/2", "q"):
+                self.server.store(address, "document {}")
+
+        stored()
+        self.assertEqual(self.asked(".list p/?"), "p/1\np/2")
+        self.assertIn("nobody can be asked", self.asked(".drop 'p/*'"))
+        self.assertEqual(self.asked(".list p"), "p/1\np/2")
+        self.assertEqual(self.asked(".drop --yes 'p/*' q"), "3 dropped")
+        self.assertIn("no document has such", self.asked(".drop --yes 'p/*'"))
+        stored()
+        for answer, left in (("n\n", "p/1\np/2"), ("y\n", "")):
+            typed = io.StringIO(answer)
+            with mock.patch("sys.stdin", typed), mock.patch.object(typed, "isatty", lambda: True):
+                self.asked(".drop p/*")
+            self.assertEqual(self.asked(".list p"), left)
+
     def test_read(self) -> None:
         file = self.folder / "script"
         file.write_text(f'.names flat\n\n1,\n2\n\n.read {file}\n\n(3,\n\n4)\n.timing on\n5\n')
@@ -92,7 +112,7 @@ class Sessions(ServerTest):
         self.assertRegex(self.said[0], r"\A\d\.\d{3} s\Z")
 
     def test_misuse(self) -> None:
-        self.assertIn(".drop ADDRESS ..", self.asked(".drop"))
+        self.assertIn(".drop [--yes] ADDRESS ..", self.asked(".drop"))
         self.assertIn("on or off", self.asked(".xml maybe"))
         self.assertIn("No such file", self.asked(".read /nothing/there"))
         self.assertIn("no folder", self.asked(".load /nothing/there"))
@@ -162,7 +182,8 @@ class TerminalTest(FolderTest):
             time.sleep(0.5 if line == INTERRUPT else 0)
             os.write(outer, line.encode())
             before = line
-        screen.wait_for(None)
+        # (a Ctrl+D that comes before the prompt stands is no end of a line that is edited)
+        screen.wait_for(None, END if before.endswith(END.decode()) else b"")
         process.wait(30)
         os.close(outer)
         return screen.seen.decode(errors="replace")

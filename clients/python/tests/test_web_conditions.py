@@ -26,17 +26,21 @@ class TagsTest(unittest.TestCase):
     """Tags, and what requests want of them."""
 
     def test_tags_differ_by_state_and_form(self) -> None:
-        tags = {tag(state_of(text), form, names) for text in ("1", "2")
-                for form in ("application/xml", "text/plain") for names in ("", "flat")}
+        forms = ("application/xml", "text/plain")
+        tags: set[str] = {
+            tag(state_of(text), form, names)
+            for text in ("1", "2") for form in forms for names in ("", "flat")}
         self.assertEqual(len(tags), 8)
         for it in tags:
             self.assertRegex(it, r'^"[\w-]{20}-[\w.-]+"$')
 
     def test_headers_are_read(self) -> None:
-        for lines, tags in ((["*"], {"*"}), (['"a"'], {'"a"'}), (['"a", W/"b"'], {'"a"', 'W/"b"'}),
-                            (['"a"', '"b,c"'], {'"a"', '"b,c"'}), (['""'], {'""'}),
-                            ([' "a" ,, "b" ,'], None), (["a"], None), (['"a'], None), ([""], set()),
-                            (['"a" "b"'], None), (['w/"a"'], None), (["*, *"], None)):
+        cases: list[tuple[list[str], set[str] | None]] = [
+            (["*"], {"*"}), (['"a"'], {'"a"'}), (['"a", W/"b"'], {'"a"', 'W/"b"'}),
+            (['"a"', '"b,c"'], {'"a"', '"b,c"'}), (['""'], {'""'}),
+            ([' "a" ,, "b" ,'], None), (["a"], None), (['"a'], None), ([""], set()),
+            (['"a" "b"'], None), (['w/"a"'], None), (["*, *"], None)]
+        for lines, tags in cases:
             with self.subTest(lines=lines):
                 given = Given(If_Match=lines)
                 if tags is None:

@@ -7,9 +7,9 @@ import unittest
 
 from tests.support import FolderTest
 from xqs import Closed, Refused, Wanting
-from xqs.prefixed import flattened
+from xqs.asking import question_over
+from xqs.folders import FolderFault
 from xqs.protocol import FrameFault
-from xqs.rewriting import Rewritten
 from xqs.web_forms import (
     FORMS,
     JSON,
@@ -27,6 +27,7 @@ from xqs.web_forms import (
 from xqs.web_guard import NAMES, TokenFault, check_host, check_origin, check_token, read_token
 from xqs.web_query import Asked, take_body
 from xqs.web_status import HttpRefusal, placed, refusal_of
+from xqs.xml_out import FLAT
 
 
 class FormsTest(unittest.TestCase):
@@ -97,13 +98,29 @@ class QueryTest(unittest.TestCase):
 
     def test_a_document_and_variables(self) -> None:
         asked = Asked()
-        self.assertEqual(asked.query("a/b"), 'doc("a/b")')
+        self.assertEqual(asked.query(asked.question(), "a/b"), 'doc("a/b")')
         asked.take("query", "//x (: c :)")
-        self.assertEqual(asked.query("a"), 'doc("a")/(//x (: c :)\n)')
+        self.assertEqual(asked.query(asked.question(), "a"), 'doc("a")/(//x (: c :)\n)')
         asked.take("$v", '"')
-        self.assertEqual(asked.query(), 'let $v := """" return (//x (: c :)\n)')
+        self.assertEqual(asked.query(asked.question()), 'let $v := """" return (//x (: c :)\n)')
         with self.assertRaises(HttpRefusal):
-            Asked().query()
+            Asked().query(None)
+
+    def test_folders(self) -> None:
+        asked = Asked()
+        asked.take("query", 'collection("p")/a')
+        self.assertTrue(asked.may_ask_for_folders())
+        text = asked.query(asked.question(lambda: ["a", "p/1"]))
+        self.assertIn('doc-available(.)', text)
+        self.assertNotIn('collection', text)
+        asked = Asked(text="count(//a)")
+        self.assertFalse(asked.may_ask_for_folders())
+        asked.take("in", "p")
+        self.assertTrue(asked.may_ask_for_folders())
+        for wrong in (Asked(folder="p"), Asked(text="1", folder="p"),
+                      Asked(text="collection($x)")):
+            with self.assertRaises((HttpRefusal, FolderFault)):
+                wrong.question(lambda: ["a"])
 
     def test_what_is_no_parameter(self) -> None:
         for name, value in (("x", "1"), ("wrap", "maybe"), ("names", "local"), ("$1", ""),
@@ -149,12 +166,14 @@ class StatusTest(unittest.TestCase):
     def test_the_place_of_a_fault_is_looked_for_in_short_queries(self) -> None:
         error = Refused("XPST0017")
         for query, headers in (("1,\n cuont(1)", {"Xqs-Place": "2:2"}), ("count(1)", {})):
-            self.assertEqual(placed(error, query, Rewritten(query)).headers, headers)
+            self.assertEqual(placed(error, question_over(list, query)).headers, headers)
         query = "a:b, c:d, cuont(1)"
-        self.assertEqual(placed(error, query, flattened(query)).headers, {"Xqs-Place": "1:11"})
+        asked = question_over(list, query, FLAT)
+        self.assertEqual(placed(error, asked).headers, {"Xqs-Place": "1:11"})
         begin = time.monotonic()
         long = "count(1)," * 100_000 + "cuont(1)"
-        self.assertEqual(placed(error, long, Rewritten(long)).headers, {})
+        self.assertEqual(placed(error, question_over(list, long)).headers, {})
+        self.assertEqual(placed(error, None).headers, {})
         self.assertLess(time.monotonic() - begin, 1)
 
     def test_a_refusal_is_its_code_and_a_sentence(self) -> None:

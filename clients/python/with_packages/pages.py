@@ -10,7 +10,7 @@ from typing import Any
 import tests  # noqa: F401 (puts the package on the path)
 
 try:
-    import devtools
+    import devtools as devtools
     import running
 except ImportError as error:
     raise unittest.SkipTest(f"{error.name} is not installed") from error

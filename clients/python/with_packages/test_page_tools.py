@@ -96,8 +96,8 @@ class Queries(ToolsTest):
         self.write("for $a in 1 to 3\nreturn $a")
         self.assertEqual(self.all(".CodeMirror-linenumber"), ["1", "2"])
         self.assertIn("return", self.all(".cm-keyword"))
-        for text, found in (('count(doc("cat', ["catalogue.xml"]), ("normalize-s",
-                                                                   ["normalize-space"])):
+        for text, found in (('count(doc("cat', ["catalogue.xml"]),
+                            ("normalize-s", ["normalize-space"])):
             self.write(text)
             self.browser.evaluate("(editor => { editor.setCursor(99, 99); editor.showHint({"
                                   "completeSingle: false, ...editor.getOption('hintOptions')}) })"

@@ -27,6 +27,36 @@ from webs import (
 )
 
 
+class Folders(WebTest):
+    """Queries over the documents of a folder."""
+
+    def setUp(self) -> None:
+        super().setUp()
+        for address in ("p/1", "p/b/2", "q"):
+            self.web.put(address, f"<d>{address}</d>")
+
+    def test_a_query_asks_for_a_folder(self) -> None:
+        every = 'string-join({}//d/string(), " ")'
+        self.check(self.web.ask("GET", asked(every.format('collection("p")'))), 200, "p/1 p/b/2")
+        inside = asked(every.format("collection()"), **{"in": "p/b"})
+        self.check(self.web.ask("GET", inside), 200, "p/b/2")
+        got = self.web.ask("POST", "/rest?in=q", every.format("collection()"), Content_Type=XQUERY)
+        self.check(got, 200, "q")
+        got = self.web.ask("GET", "/rest/q?query=" + urllib.parse.quote(
+            'string(.), count(collection("p"))'), Accept=XQUERY)
+        self.check(got, 200, '"q", 2')
+
+    def test_what_is_wrong_with_it_has_its_place(self) -> None:
+        got = self.web.ask("GET", asked("1, collection($x)"))
+        self.check_refused(got, 400, "xqs:FOLDER")
+        self.assertEqual(got.headers["Xqs-Place"], "1:4")
+        got = self.web.ask("GET", asked('collection("p"), conut(1)'))
+        self.check_refused(got, 400, "XPST0017")
+        self.assertEqual(got.headers["Xqs-Place"], "1:18")
+        self.check_refused(self.web.ask("GET", "/rest/q?in=p"), 400, "xqs:REQUEST")
+        self.check_refused(self.web.ask("GET", asked("1", **{"in": "p"})), 400, "xqs:FOLDER")
+
+
 class Documents(WebTest):
     """Documents in and out."""
 
@@ -220,6 +250,36 @@ class Guard(WebTest):
             self.check_refused(self.web.put("b", BOOK, Origin=origin), 403, "xqs:ORIGIN")
             self.check_refused(self.web.ask("GET", "/rest", Origin=origin), 403, "xqs:ORIGIN")
         self.check(self.web.ask("GET", "/rest", Accept=XQUERY), 200, '"a"')
+
+    def test_a_page_of_elsewhere_that_may_ask_wants_the_token(self) -> None:
+        origin, bearer = "https://app.example", f"Bearer {TOKEN}"
+        with RunningWeb("--origin", origin) as web:
+            self.check(web.put("a", BOOK, Origin=origin), 201)
+            got = web.ask("GET", asked("count(collection())"), Origin=origin,
+                          Sec_Fetch_Site="cross-site", Authorization=bearer)
+            self.check(got, 200, "1")
+            self.assertEqual(got.headers["Access-Control-Allow-Origin"], origin)
+            self.assertIn("ETag", got.headers["Access-Control-Expose-Headers"])
+            self.assertIn("Origin", got.headers["Vary"])
+            for given in ("", "Bearer wrong", web.basic("xqs")):
+                for method, path in (("GET", "/rest"), ("PUT", "/rest/b"), ("GET", "/")):
+                    got = web.ask(method, path, BOOK, Origin=origin, Authorization=given)
+                    self.check_refused(got, 401, "xqs:TOKEN")
+            for other in ("https://app.example.evil", "http://app.example", "null"):
+                got = web.ask("GET", "/rest", Origin=other, Authorization=bearer)
+                self.check_refused(got, 403, "xqs:ORIGIN")
+                self.assertNotIn("Access-Control-Allow-Origin", got.headers)
+
+    def test_a_browser_asks_first_what_such_a_page_may_ask(self) -> None:
+        origin = "https://app.example"
+        first = {"Access_Control_Request_Method": "PUT", "Sec_Fetch_Site": "cross-site"}
+        with RunningWeb("--origin", origin) as web:
+            got = web.ask("OPTIONS", "/rest/a", Origin=origin, **first)
+            self.check(got, 204)
+            self.assertIn("PUT", got.headers["Access-Control-Allow-Methods"])
+            self.assertIn("Authorization", got.headers["Access-Control-Allow-Headers"])
+            got = web.ask("OPTIONS", "/rest/a", Origin="https://other.example", **first)
+            self.check_refused(got, 403, "xqs:ORIGIN")
 
     def test_what_browsers_say_of_a_request(self) -> None:
         for site, status in (("same-origin", 200), ("none", 200), ("same-site", 403),

@@ -79,7 +79,12 @@ class Slow(SlowTest):
             reader.sendall(self.head("GET", "/rest/long"))
         for reader in readers:
             self.assertTrue(reader.recv(1))
-        end = self.slowly(lambda: [reader.recv(4 << 10) for reader in readers] and None)
+
+        def read_some() -> None:
+            for reader in readers:
+                reader.recv(4 << 10)
+
+        end = self.slowly(read_some)
         try:
             self.check_nobody_waits(before)
         finally:

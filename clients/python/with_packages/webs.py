@@ -14,7 +14,7 @@ try:
 except ImportError as error:
     raise unittest.SkipTest("aiohttp is not installed") from error
 
-from running import TOKEN as TOKEN
+from running import TOKEN as TOKEN  # noqa: F401
 from running import Answer as Answer
 from running import RunningWeb as RunningWeb
 

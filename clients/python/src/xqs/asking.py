@@ -1,10 +1,10 @@
 """Queries as people write them: asked as the server takes them, shown as they were asked.
 
-What `xqs query` and the shell share: names with a prefix, folders of documents, the form of the
-value, and the place of a fault in the text as it was written.
+What `xqs query`, the shell and HTTP share: names with a prefix, folders of documents, the form of
+the value, and the place of a fault in the text as it was written.
 """
 
-from collections.abc import Mapping
+from collections.abc import Callable, Mapping
 from dataclasses import dataclass, replace
 
 from xqs import places
@@ -33,27 +33,38 @@ class Question:
         """The text that is sent, with a string for each of these variables."""
         return q(self.asked.text, **strings)
 
-    def place(self, code: str) -> str:
-        """The place that explains a refusal, with its line; empty where there is none."""
+    def found(self, code: str) -> places.Place | None:
+        """The place in the text as it was written that explains a refusal."""
         place = places.find(self.asked.text, code)
         if place is None:
-            return ""
-        at = self.flat.place(self.asked.place(place.at))
-        return places.marked(self.text, replace(place, at=at))
+            return None
+        return replace(place, at=self.flat.place(self.asked.place(place.at)))
+
+    def place(self, code: str) -> str:
+        """The place that explains a refusal, with its line; empty where there is none."""
+        place = self.found(code)
+        return "" if place is None else places.marked(self.text, place)
 
 
 def question(client: Client, text: str, names: str = KEEP, folder: str | None = None) -> Question:
     """The query; by `flat` names with a prefix are flat ones, and `folder` is what `collection()`
     has. PrefixFault and FolderFault, with their place in the text."""
+    return question_over(client.list, text, names, folder)
+
+
+def question_over(
+    addresses: Callable[[], list[str]], text: str, names: str = KEEP, folder: str | None = None
+) -> Question:
+    """As `question`; `addresses` is called at most once, where the query asks for a folder."""
     flat = flattened(text) if is_flat(names) else Rewritten(text)
     known: list[str] = []
 
-    def addresses() -> list[str]:
-        known.extend(client.list())
+    def noted() -> list[str]:
+        known.extend(addresses())
         return known
 
     try:
-        asked = with_folders(flat.text, folder, addresses)
+        asked = with_folders(flat.text, folder, noted)
     except FolderFault as error:
         raise FolderFault(text, flat.place(error.at), error.why) from None
     return Question(text, flat, asked, folder is not None and not below(known, folder))

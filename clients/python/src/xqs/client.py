@@ -22,9 +22,6 @@ from xqs.requests import (
     query_of,
     store_of,
 )
-from xqs.streams import PIECE as PIECE
-from xqs.streams import ProcessStream as ProcessStream
-from xqs.streams import SocketStream as SocketStream
 from xqs.streams import Stream, open_stream
 from xqs.temporary import check_lasting
 from xqs.values import Item, items, values

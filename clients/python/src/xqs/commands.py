@@ -13,17 +13,15 @@ from xqs.asking import question, shown, strings_of
 from xqs.cli import connected, connection_options, server_of, warn_of_memory
 from xqs.client import Client
 from xqs.constructors import write_constructors
+from xqs.drops import agreed, chosen, drop_all
 from xqs.errors import Refused
 from xqs.fetch import document_events
-from xqs.folders import is_pattern, matching
+from xqs.folders import named_by
 from xqs.load import xml_choices, xml_options
 from xqs.prefixed import prefixed_events
 from xqs.progress import progress_of
 from xqs.xml_in import XmlChoices
 from xqs.xml_out import FLAT, KEEP, write_document
-
-SHOWN = 5
-"""So many addresses stand in a question."""
 
 
 def _words(name: str, description: str) -> argparse.ArgumentParser:
@@ -124,40 +122,19 @@ def drop(words: Sequence[str]) -> int:
     parser.add_argument("--yes", action="store_true", help="don't ask before a pattern's go")
     given = parser.parse_args(words)
     with connected(given) as client:
-        found, status = _asked(client, given.address), 0
-        if any(map(is_pattern, given.address)) and found and not given.yes and not _agreed(found):
+        found = chosen(client, given.address)
+        is_asked = found.is_by_pattern and found.addresses and not given.yes
+        if is_asked and not agreed(found.addresses):
             print("xqs drop: nothing is dropped", file=sys.stderr)
             return 1
-        for word in (it for it in given.address if is_pattern(it) and not matching(found, it)):
-            print(f"xqs drop: {word}: no document has such an address", file=sys.stderr)
-            status = 1
-        for address, future in [(it, client.drop_later(it)) for it in found]:
-            try:
-                future.result()
-            except Refused as error:
-                print(f"xqs drop: {address}: {error}", file=sys.stderr)
-                status = 1
-    return status
+        for word in found.unmatched:
+            _say_drop(f"{word}: no document has such an address")
+        dropped = drop_all(client, found.addresses, _say_drop)
+    return 0 if dropped == len(found.addresses) and not found.unmatched else 1
 
 
-def _asked(client: Client, words: Sequence[str]) -> list[str]:
-    """The addresses that are given, and those that match the patterns, each once."""
-    known = client.list() if any(map(is_pattern, words)) else []
-    found = (matching(known, it) if is_pattern(it) else [it] for it in words)
-    return list(dict.fromkeys(it for some in found for it in some))
-
-
-def _agreed(addresses: Sequence[str]) -> bool:
-    """Asks whether documents are to be dropped; ValueError where nobody can be asked."""
-    count = len(addresses)
-    first = ", ".join(addresses[:SHOWN])
-    first += f", and {count - SHOWN:,} more" if count > SHOWN else ""
-    if not sys.stdin.isatty():
-        raise ValueError(f"{count:,} documents would be dropped ({first}); nobody can be asked "
-                         "here, so say --yes")
-    print(f"{first}\ndrop {count:,} document{'s' * (count != 1)}? [y/N] ", end="", file=sys.stderr,
-          flush=True)
-    return sys.stdin.readline().strip().lower() in ("y", "yes")
+def _say_drop(text: str) -> None:
+    print(f"xqs drop: {text}", file=sys.stderr)
 
 
 def list_addresses(words: Sequence[str]) -> int:
@@ -167,8 +144,6 @@ def list_addresses(words: Sequence[str]) -> int:
                         help="those alone that begin so, or match a pattern such as 'books/*.xml'")
     given = parser.parse_args(words)
     with connected(given) as client:
-        known = client.list()
-    wanted = matching(known, given.prefix) if is_pattern(given.prefix) else [
-        it for it in known if it.startswith(given.prefix)]
+        wanted = named_by(client.list(), given.prefix)
     sys.stdout.write("".join(f"{it}\n" for it in wanted))
     return 0

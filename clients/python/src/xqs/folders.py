@@ -39,7 +39,7 @@ class FolderFault(XqError, ValueError):
     def __init__(self, text: str, at: int, why: str) -> None:
         line, column = line_and_column(text, at)
         super().__init__(f"{line}:{column}: {why}")
-        self.at, self.why = at, why
+        self.text, self.at, self.why = text, at, why
 
 
 def is_pattern(word: str) -> bool:
@@ -51,6 +51,13 @@ def is_pattern(word: str) -> bool:
 def matching(addresses: Iterable[str], pattern: str) -> list[str]:
     """The addresses that match a pattern, but those of parts where it doesn't begin as they do."""
     return _lasting((it for it in addresses if fnmatchcase(it, pattern)), pattern)
+
+
+def named_by(addresses: Iterable[str], word: str) -> list[str]:
+    """The addresses that a word of a list names: those that match a pattern, or begin so."""
+    if is_pattern(word):
+        return matching(addresses, word)
+    return [it for it in addresses if it.startswith(word)]
 
 
 def below(addresses: Iterable[str], folder: str) -> list[str]:
@@ -93,6 +100,11 @@ def in_folders(client: Client, text: str, folder: str | None = None) -> str:
     return with_folders(text, folder, client.list).text
 
 
+def may_ask_for_folders(text: str, folder: str | None = None) -> bool:
+    """Whether addresses may be wanted to put folders into the query, told at once."""
+    return folder is not None or "collection" in text
+
+
 @dataclass(frozen=True)
 class _Call:
     """A call of `collection`: its first token, its end, and the folder that it names."""
@@ -104,6 +116,8 @@ class _Call:
 
 def with_folders(text: str, folder: str | None, addresses: Callable[[], list[str]]) -> Rewritten:
     """As `in_folders`, with the places; `addresses` is called where they are wanted."""
+    if not may_ask_for_folders(text, folder):
+        return Rewritten(text)
     calls = [it for it in _calls(text) if it.folder is not None or folder is not None]
     if folder is not None and not any(it.folder is None for it in calls):
         raise FolderFault(text, 0, "nothing in the query asks for the folder: it has no "

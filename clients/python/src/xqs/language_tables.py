@@ -133,4 +133,5 @@ Clause ::= For | Let | Filter | Group | Count | Order
 Flwor ::= (For | Let) Clause* "return" ExprSingle
 ExprSingle ::= Flwor | Quantified | If | Or
 """
-"""The grammar, one production a line, which may go on with an indent; docs/LANGUAGE.md says what its tokens are."""
+"""The grammar, one production a line, which may go on with an indent; docs/LANGUAGE.md says what
+its tokens are."""

@@ -12,19 +12,22 @@ from xqs.bounds import lost
 from xqs.client import Client
 from xqs.commands import store_file
 from xqs.constructors import write_constructors
+from xqs.drops import agreed, chosen, drop_all
 from xqs.errors import Closed, Refused, XqError
 from xqs.export import Exporter
 from xqs.fetch import document_events
+from xqs.folders import named_by
 from xqs.load import load_folder
 from xqs.prefixed import prefixed_events
 from xqs.shell_texts import COMMANDS, is_command, parted, texts_of
-from xqs.shell_texts import is_whole as is_whole
 from xqs.xml_in import XmlChoices
 from xqs.xml_names import Names
 from xqs.xml_out import FLAT, KEEP, XmlWriter
 
 _ADDRESS_CALLS = ('doc("', "doc('", 'doc-available("', "doc-available('")
 _ADDRESS_COMMANDS = (".drop ", ".store ", ".get ")
+_YES = "--yes"
+"""The word by which a drop asks nothing."""
 
 
 _HELP = (
@@ -145,8 +148,8 @@ class Session:
         method: Callable[..., bool | None] = getattr(self, f"_do_{name[1:]}")
         return method(*words) is not False
 
-    def _do_list(self, prefix: str = "") -> None:
-        self._show("\n".join(it for it in self._client.list() if it.startswith(prefix)))
+    def _do_list(self, wanted: str = "") -> None:
+        self._show("\n".join(named_by(self._client.list(), wanted)))
 
     def _do_get(self, address: str) -> None:
         pieces: list[str] = []
@@ -164,10 +167,18 @@ class Session:
             choices = XmlChoices(self._names)
             self._show(store_file(self._client, address, file, path, choices))
 
-    def _do_drop(self, *addresses: str) -> None:
-        for address in addresses:
-            self._client.drop(address)
-        self._show("dropped")
+    def _do_drop(self, *words: str) -> bool:
+        found = chosen(self._client, [it for it in words if it != _YES])
+        is_asked = found.is_by_pattern and found.addresses and _YES not in words
+        if is_asked and not agreed(found.addresses):
+            self._say("nothing is dropped")
+            return False
+        for word in found.unmatched:
+            self._say(f"{word}: no document has such an address")
+        dropped = drop_all(self._client, found.addresses, self._say)
+        if dropped:
+            self._show(f"{dropped:,} dropped" if found.is_by_pattern else "dropped")
+        return dropped == len(found.addresses) and not found.unmatched
 
     def _do_load(self, folder: str, prefix: str = "") -> bool:
         outcome = load_folder(self._client, Path(folder), prefix, XmlChoices(self._names))

@@ -20,10 +20,11 @@ class Command:
 
 
 COMMANDS = {
-    ".list": Command("[PREFIX]", "the addresses", 0, 1),
+    ".list": Command("[PREFIX]", "the addresses that begin so, or match a pattern", 0, 1),
     ".get": Command("ADDRESS", "a document, of any length", 1, 1),
     ".store": Command("ADDRESS FILE", "store a file of XML, or of a query", 2, 2),
-    ".drop": Command("ADDRESS ..", "drop documents", 1, 1_000_000),
+    ".drop": Command("[--yes] ADDRESS ..", "drop documents; of a pattern all, after a question",
+                     1, 1_000_000),
     ".load": Command("DIR [PREFIX]", "store the XML files of a folder", 1, 2),
     ".export": Command("DIR [PREFIX]", "write documents to a folder as XML", 1, 2),
     ".names": Command("refuse|flat|local", "what becomes of names with a colon", 1, 1),

@@ -9,7 +9,8 @@ from prompt_toolkit.document import Document
 from prompt_toolkit.history import FileHistory
 from prompt_toolkit.key_binding import KeyBindings, KeyPressEvent
 
-from xqs.session import Session, completions, is_whole
+from xqs.session import Session, completions
+from xqs.shell_texts import is_whole
 
 
 class Words(Completer):

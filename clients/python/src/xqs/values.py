@@ -89,7 +89,6 @@ class Node:
 
         return xml(self, names)
 
-
     def element(self) -> "ElementTree.Element":
         """This element, or that of this document, as xml.etree.ElementTree has it; NoTree (a
         ValueError) where it has no room for it."""

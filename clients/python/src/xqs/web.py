@@ -22,7 +22,7 @@ from xqs.multiplexer import Multiplexer, is_on_file
 from xqs.mux_clients import Settings
 from xqs.mux import add_limits, duration, positive, settings_of, split_command, until_signal
 from xqs.web_connections import Connections
-from xqs.web_guard import NAMES, read_token
+from xqs.web_guard import NAMES, ORIGIN, read_token
 from xqs.web_rest import MAX_LINE, Rest, WebSettings
 from xqs.xml_names import Names
 
@@ -111,6 +111,14 @@ async def served(
         await runner.cleanup()
 
 
+def origin_of(word: str) -> str:
+    """The origin of pages that a word names; ArgumentTypeError for one that is none."""
+    if not ORIGIN.fullmatch(word):
+        raise argparse.ArgumentTypeError(
+            f"an origin is as https://app.example, without a path, not {word!r}")
+    return word
+
+
 def parser() -> argparse.ArgumentParser:
     """The words of the command."""
     result = argparse.ArgumentParser(
@@ -124,6 +132,8 @@ def parser() -> argparse.ArgumentParser:
            "where it is not there; without it there are none")
     option("--host", metavar="NAME", action="append", default=[],
            help="another name of this server, as behind a proxy")
+    option("--origin", metavar="ORIGIN", action="append", default=[], type=origin_of,
+           help="a page of that origin, as https://app.example, may ask with the token")
     option("--names", choices=[it.value for it in Names], default=DEFAULTS.names.value,
            help="what becomes of names with a colon, where a request does not say it")
     option("--body", type=positive, metavar="BYTES", default=DEFAULTS.body,
@@ -152,10 +162,13 @@ def main(words: Sequence[str] | None = None) -> int:
     before, command = split_command(sys.argv[1:] if words is None else words)
     given = parser().parse_args(before)
     place = Command(tuple(command)) if command else server_of(given)
+    if given.origin and not given.token_file:
+        raise ValueError("--origin wants --token-file: a page of elsewhere asks with the token")
     token = read_token(given.token_file) if given.token_file else None
     options = replace(
-        DEFAULTS, hosts=NAMES | {name.lower() for name in given.host}, token=token,
-        names=Names(given.names), body=given.body, wait=given.wait, head=given.head,
+        DEFAULTS, hosts=NAMES | {name.lower() for name in given.host},
+        origins=frozenset(given.origin), token=token, names=Names(given.names),
+        body=given.body, wait=given.wait, head=given.head,
         requests=given.requests, connections=given.connections, held=given.answers,
         seconds=0 if isinstance(place, Command) else bounds_of(given).seconds or 0,
     )

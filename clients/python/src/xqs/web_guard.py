@@ -2,12 +2,14 @@
 
 A page of elsewhere that runs in a browser on this machine can send requests to it, also under a
 name of its own that it has pointed here. So the name that a request was sent to has to be known,
-and a request that a browser says another page has made is refused.
+and a request that a browser says another page has made is refused, unless the page's origin is one
+that may ask, and it sends the token.
 """
 
 import base64
 import hmac
 import os
+import re
 import secrets
 import stat
 from collections.abc import Mapping
@@ -22,6 +24,10 @@ READS = frozenset(("GET", "HEAD"))
 CHANGES = frozenset(("PUT", "DELETE"))
 OWN_PAGES = ("same-origin", "none")
 """What a browser says of a request of the page itself, or of whoever sits before it."""
+EXPOSED = "ETag, Link, Location, Server-Timing, Xqs-Code, Xqs-Place, Xqs-Total"
+"""The headers of an answer that a page of elsewhere may read, beside those that each may."""
+ORIGIN = re.compile(r"https?://[a-z0-9.\-\[\]:]+|null")
+"""How a browser writes the origin of a page."""
 LEAST_TOKEN = 16
 """A token has at least so many characters."""
 
@@ -40,6 +46,39 @@ def check_host(host: str | None, names: frozenset[str]) -> None:
     """Refuses a request that was sent to a name that is not ours."""
     if not host or name_of_host(host) not in names:
         raise HttpRefusal(403, "xqs:HOST", f"this server is not called {host or 'nothing'}")
+
+
+def is_guest(origin: str | None, origins: frozenset[str]) -> bool:
+    """Whether a page of elsewhere has asked whose origin may ask, with the token."""
+    return origin is not None and origin in origins
+
+
+def check_guest(headers: Mapping[str, str], token: str | None) -> None:
+    """Refuses a request of such a page without the token, reads too.
+
+    A browser sends a user and a password by itself once it knows them, so Bearer is wanted.
+    """
+    given = headers.get("Authorization", "")
+    is_bearer = given.partition(" ")[0].lower() == "bearer"
+    if token is None or not is_bearer or not _is_token(given, token):
+        raise HttpRefusal(
+            401, "xqs:TOKEN", "a page of elsewhere has to send Authorization: Bearer TOKEN",
+            {"WWW-Authenticate": 'Bearer realm="xqs"'},
+        )
+
+
+def guest_headers(origin: str) -> dict[str, str]:
+    """What tells a browser that the page of that origin may have the answer."""
+    return {"Access-Control-Allow-Origin": origin, "Access-Control-Expose-Headers": EXPOSED}
+
+
+def preflight_headers(allow: str) -> dict[str, str]:
+    """What tells a browser which requests such a page may make, at a path of these methods."""
+    return {
+        "Access-Control-Allow-Methods": allow,
+        "Access-Control-Allow-Headers": "Authorization, Content-Type, If-Match, If-None-Match",
+        "Access-Control-Max-Age": "600",
+    }
 
 
 def check_origin(method: str, path: str, headers: Mapping[str, str]) -> None:
@@ -62,11 +101,15 @@ def check_token(method: str, given: str | None, token: str | None) -> None:
         raise HttpRefusal(
             403, "xqs:READONLY", "nothing can be stored or dropped here without --token-file"
         )
-    if not hmac.compare_digest(_secret_in(given or ""), token.encode()):
+    if not _is_token(given or "", token):
         raise HttpRefusal(
             401, "xqs:TOKEN", "a store or a drop wants Authorization: Bearer TOKEN, or Basic with "
             "the token for a password", {"WWW-Authenticate": 'Bearer realm="xqs"'},
         )
+
+
+def _is_token(given: str, token: str) -> bool:
+    return hmac.compare_digest(_secret_in(given), token.encode())
 
 
 def _secret_in(given: str) -> bytes:

@@ -2,12 +2,12 @@
 
 import re
 import xml.etree.ElementTree as ElementTree
-from collections.abc import Iterable, Iterator
+from collections.abc import Callable, Iterable, Iterator
 from dataclasses import dataclass, field
 
-from xqs.prefixed import flattened
+from xqs.asking import Question, question_over
+from xqs.folders import may_ask_for_folders
 from xqs.queries import q
-from xqs.rewriting import Rewritten
 from xqs.values import quoted
 from xqs.web_charset import decoded
 from xqs.web_forms import NAMESPACE
@@ -61,9 +61,11 @@ def whole_number(name: str, value: str) -> int:
 
 @dataclass
 class Asked:
-    """A query, the values of its variables, and how its result is wanted."""
+    """A query, the values of its variables, and how its result is wanted; `folder` is what its
+    `collection()` has, all documents where it is None."""
 
     text: str | None = None
+    folder: str | None = None
     variables: dict[str, str] = field(default_factory=dict)
     names: str = KEEP
     is_wrapped: bool = False
@@ -73,6 +75,8 @@ class Asked:
         match name:
             case "query":
                 self.text = value
+            case "in":
+                self.folder = value
             case "wrap":
                 self.is_wrapped = truth(name, value)
             case "names":
@@ -93,18 +97,28 @@ class Asked:
         """Whether a whole document is asked for, and not some query about it."""
         return self.text is None and not self.is_wrapped
 
-    def flattened(self) -> Rewritten:
-        """The query's text, in which names with a prefix are flat where that is the choice."""
-        text = self.text or ""
-        return flattened(text) if self.names == FLAT else Rewritten(text)
+    def may_ask_for_folders(self) -> bool:
+        """Whether addresses may be wanted for the query."""
+        return may_ask_for_folders(self.text or "", self.folder)
 
-    def query(self, address: str = "") -> str:
-        """The query to be asked; of the document at an address, where one is given.
+    def question(self, addresses: Callable[[], list[str]] = list) -> Question | None:
+        """The query with flat names, where that is the choice, and with the documents of its
+        folders; None where there is no query. `addresses` is called where folders are asked for.
+
+        PrefixFault for a name that flat names have no room for; FolderFault.
+        """
+        if self.text is None:
+            if self.folder is not None:
+                raise HttpRefusal(400, "xqs:REQUEST", "in= belongs to a query")
+            return None
+        return question_over(addresses, self.text, self.names, self.folder)
+
+    def query(self, question: Question | None, address: str = "") -> str:
+        """The text to be sent; of the document at an address, where one is given.
 
         Values are quoted: none is read as a query. ValueError for characters that XML hasn't.
-        PrefixFault for a name that flat names have no room for.
         """
-        text = None if self.text is None else self.flattened().text
+        text = None if question is None else question.asked.text
         if address:
             document = f"doc({quoted(address)})"
             text = document if text is None else f"{document}/({text}\n)"

@@ -21,7 +21,17 @@ from xqs.web_charset import decoded
 from xqs.web_connections import at_work
 from xqs.web_files import ZIP, addresses_as_json, write_archive
 from xqs.web_forms import JSON, LIST_FORMS, TEXT, XQUERY, chosen, spelled_list
-from xqs.web_guard import CHANGES, NAMES, check_host, check_origin, check_token
+from xqs.web_guard import (
+    CHANGES,
+    NAMES,
+    check_guest,
+    check_host,
+    check_origin,
+    check_token,
+    guest_headers,
+    is_guest,
+    preflight_headers,
+)
 from xqs.web_incoming import Put
 from xqs.web_lists import LIST_PARAMETERS, listing_of
 from xqs.web_locks import Locks
@@ -58,13 +68,15 @@ LIST_METHODS, DOCUMENT_METHODS = "GET, HEAD, POST, OPTIONS", "GET, HEAD, POST, P
 class WebSettings:
     """Who may do what: the names of this server, and the token for changes, None for no changes.
 
-    `names` is what becomes of names with a colon in XML, where a request does not say it: a choice
+    `origins` are those of pages of elsewhere that may ask, if they send the token. `names` is what
+    becomes of names with a colon in XML, where a request does not say it: a choice
     of `Names`. `body` is the most bytes of a body, `wait` the seconds for the next piece of a body
     or of an answer, `head` those for the head of a request. `requests` is how many are carried out
     at once, `connections` how many there are at once.
     """
 
     hosts: frozenset[str] = NAMES
+    origins: frozenset[str] = frozenset()
     token: str | None = None
     names: Names = Names.REFUSE
     body: int = 256 << 20
@@ -116,16 +128,13 @@ class Rest:
             web.delete("/rest/{address:.+}", self.delete),
             web.options("/rest/{address:.+}", self.options),
         ])
-        application.on_response_prepare.append(_add_headers)
+        application.on_response_prepare.append(self._add_headers)
         return application
 
     async def _guarded(self, request: web.Request, handler: Handler) -> web.StreamResponse:
         """Checks who asks, and tells each error as a refusal."""
         try:
-            check_host(request.headers.get("Host"), self._settings.hosts)
-            check_origin(request.method, request.path, request.headers)
-            token = self._settings.token
-            check_token(request.method, request.headers.get("Authorization"), token)
+            self._check(request)
             return await handler(request)
         except NotModified as error:
             return web.Response(status=304, headers=etag(error.tag))
@@ -137,6 +146,27 @@ class Rest:
             if refusal is None:
                 raise
             return _refused(refusal)
+
+    def _check(self, request: web.Request) -> None:
+        """HttpRefusal where whoever asks may not."""
+        headers, token = request.headers, self._settings.token
+        check_host(headers.get("Host"), self._settings.hosts)
+        if not is_guest(headers.get("Origin"), self._settings.origins):
+            check_origin(request.method, request.path, headers)
+        elif not _is_preflight(request):
+            check_guest(headers, token)
+        check_token(request.method, headers.get("Authorization"), token)
+
+    async def _add_headers(self, request: web.Request, response: web.StreamResponse) -> None:
+        """Adds what each answer says to browsers."""
+        for name, value in HEADERS.items():
+            response.headers.setdefault(name, value)
+        response.headers["Server"] = "xqs"
+        origin = request.headers.get("Origin")
+        if self._settings.origins:
+            response.headers.add("Vary", "Origin")
+        if origin is not None and is_guest(origin, self._settings.origins):
+            response.headers.update(guest_headers(origin))
 
     @asynccontextmanager
     async def _client(self) -> AsyncIterator[aio.AsyncClient]:
@@ -185,7 +215,8 @@ class Rest:
         parameters_of(request).only(())
         is_document = "address" in request.match_info
         allow = DOCUMENT_METHODS if is_document else LIST_METHODS
-        return web.Response(status=204, headers={"Allow": allow})
+        more = preflight_headers(allow) if _is_preflight(request) else {}
+        return web.Response(status=204, headers={"Allow": allow, **more})
 
     async def get_all(self, request: web.Request) -> web.StreamResponse:
         """The answer to the query of the URL; the addresses, where there is none."""
@@ -229,8 +260,10 @@ class Rest:
     ) -> web.StreamResponse:
         wanted = Wanted(request.headers.get("Accept"), asked.names, asked.is_wrapped)
         wanted.check()
-        query = asked.query(address)
         async with self._room:
+            known, is_long = await self._addresses(asked), len(asked.text or "") > SHORT
+            question = await in_thread_if(is_long, asked.question, lambda: known)
+            query = asked.query(question, address)
             begin = time.perf_counter()
             try:
                 async with self._client() as connection:
@@ -238,12 +271,19 @@ class Rest:
                 took = time.perf_counter() - begin
             except Refused as error:
                 if error.code != "prof:REPLY" or not address or not asked.is_whole():
-                    raise placed(error, asked.text or "", asked.flattened()) from error
+                    raise placed(error, question) from error
                 body = await asyncio.to_thread(self._in_parts, address, wanted)
                 took = time.perf_counter() - begin
             else:
                 body = await in_thread_if(len(text) > SHORT, answer_of, text, wanted)
         return await self._send(request, body, {"Server-Timing": f"server;dur={took * 1000:.3f}"})
+
+    async def _addresses(self, asked: Asked) -> list[str]:
+        """The addresses of the moment, where the query may want those of a folder."""
+        if not asked.may_ask_for_folders():
+            return []
+        async with self._client() as connection:
+            return await connection.list()
 
     def _in_parts(self, address: str, wanted: Wanted) -> Body:
         with self._thread_client() as connection:
@@ -309,10 +349,9 @@ def _refused(refusal: HttpRefusal) -> web.Response:
         status=refusal.status, body=body, content_type=TEXT, charset="utf-8", headers=headers)
 
 
-async def _add_headers(_: web.Request, response: web.StreamResponse) -> None:
-    for name, value in HEADERS.items():
-        response.headers.setdefault(name, value)
-    response.headers["Server"] = "xqs"
+def _is_preflight(request: web.Request) -> bool:
+    """Whether a browser asks what a page of elsewhere may ask; it sends no token with that."""
+    return request.method == "OPTIONS" and "Access-Control-Request-Method" in request.headers
 
 
 def parameters_of(request: web.Request) -> Parameters:

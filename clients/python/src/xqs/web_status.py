@@ -4,10 +4,11 @@ from collections.abc import Mapping
 from dataclasses import dataclass, field, replace
 
 from xqs import places
+from xqs.asking import Question
 from xqs.errors import Closed, Refused, ReplyError, TimedOut, XqError
+from xqs.folders import FolderFault
 from xqs.prefixed import PrefixFault
 from xqs.protocol import FrameFault
-from xqs.rewriting import Rewritten
 from xqs.temporary import KeptAddress
 
 STATUSES = {
@@ -63,6 +64,9 @@ def refusal_of(error: Exception, changes: bool) -> HttpRefusal | None:
             return HttpRefusal(413, "prof:LONG", str(error))
         case KeptAddress():
             return HttpRefusal(403, "xqs:TEMPORARY", str(error))
+        case FolderFault():
+            refusal = HttpRefusal(BAD, "xqs:FOLDER", "no documents of a folder can be put in")
+            return _at(refusal, error.text, error.at, error.why)
         case PrefixFault():
             refusal = HttpRefusal(BAD, "xqs:NAMES", "a name has no flat name")
             return _at(refusal, error.text, error.at, error.why)
@@ -73,14 +77,13 @@ def refusal_of(error: Exception, changes: bool) -> HttpRefusal | None:
     return None
 
 
-def placed(error: Refused, query: str, flat: Rewritten) -> HttpRefusal:
-    """The refusal of a query, which was asked with flat names, with the place of its fault where
-    the text tells one."""
+def placed(error: Refused, question: Question | None) -> HttpRefusal:
+    """The refusal of a query, with the place of its fault where the text tells one."""
     refusal = _told(error, STATUSES.get(error.code, BAD))
-    place = places.find(flat.text, error.code) if len(query) <= SEARCHED else None
-    if place is None:
+    if question is None or len(question.text) > SEARCHED:
         return refusal
-    return _at(refusal, query, flat.place(place.at), place.why)
+    place = question.found(error.code)
+    return refusal if place is None else _at(refusal, question.text, place.at, place.why)
 
 
 def _at(refusal: HttpRefusal, query: str, at: int, why: str) -> HttpRefusal:

@@ -6,7 +6,8 @@ import socket
 from collections.abc import Callable
 from typing import TypeVar
 
-from xqs.client import Client, SocketStream
+from xqs.client import Client
+from xqs.streams import SocketStream
 from xqs.mux_backend import Backend
 from xqs.mux_peer import Peer, Request
 

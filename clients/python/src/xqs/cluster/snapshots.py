@@ -13,7 +13,7 @@ from dataclasses import dataclass
 from pathlib import Path
 from typing import BinaryIO
 
-from xqs import backup
+from xqs import backup as backup
 from xqs.backup import NoBackup
 from xqs.client import Client
 from xqs.cluster.state import NoState, State
