@@ -5,6 +5,7 @@ import importlib
 import io
 import os
 import shlex
+import shutil
 import signal
 import sys
 import threading
@@ -25,6 +26,8 @@ if TYPE_CHECKING:
 
 _IN_CHECKOUT = ("clients", "python", "src", "xqs")
 SERVER_VARIABLE = "XQS_SERVER"
+INSTALLED_SERVER = "xq_server"
+"""The command of the server that Debian's package installs."""
 
 
 @dataclass(frozen=True)
@@ -88,7 +91,8 @@ def connection_options(bounded: bool = True) -> argparse.ArgumentParser:
         "--server",
         metavar="WHERE",
         help="unix:PATH, tcp:PORT, or a command to start, such as './serve --file x.db'; "
-        f"else ${SERVER_VARIABLE}, else ./serve of the checkout",
+        f"else ${SERVER_VARIABLE}, else ./serve of the checkout, or the installed "
+        f"{INSTALLED_SERVER}",
     )
     group.add_argument(
         "--file", metavar="PATH", help="the file of the documents, where a command is started"
@@ -99,11 +103,12 @@ def connection_options(bounded: bool = True) -> argparse.ArgumentParser:
 
 
 def server_of(given: argparse.Namespace) -> Endpoint:
-    """Where the server is, by the options, the environment or the checkout.
+    """Where the server is, by the options, the environment, the checkout, or what is installed.
 
     ValueError where nothing says so, or it is no such place.
     """
-    where = given.server or os.environ.get(SERVER_VARIABLE) or checkout_server()
+    where = (given.server or os.environ.get(SERVER_VARIABLE) or checkout_server()
+             or shutil.which(INSTALLED_SERVER))
     if not where:
         raise ValueError(f"no server is named: give --server, or set {SERVER_VARIABLE}")
     place = endpoint(where)
