@@ -84,7 +84,7 @@ def commit_of() -> tuple[str, str, str]:
 
 def version_of(commit: str) -> str:
     """The package's version: the client's, the day of the commit, and its beginning."""
-    found = re.search(r'"(.+)"', (CLIENT / "src" / "xqs" / "version.py").read_text())
+    found = re.search('__version__ = "(.+)"', (CLIENT / "src" / "xqs" / "version.py").read_text())
     assert found is not None
     day = run(["git", "log", "-1", "--format=%cd", "--date=format:%Y%m%d%H%M"]).strip()
     return f"{found[1]}+git{day}.{commit[:8]}"
