@@ -52,12 +52,10 @@ py3clean -p xq-server
 """
 OVERRIDES = f"""# The program is as the proving toolchain links it: it is not stripped.
 {NAME}: unstripped-binary-or-object *
-{NAME}: hardening-no-*
-# The units' user is made by postinst; they are started by hand, since each names a file or a log.
-{NAME}: systemd-service-file-* *
-{NAME}: maintainer-script-calls-systemctl *
+# Nobody has filed a bug for a package that no archive has.
 {NAME}: initial-upload-closes-no-bugs *
-{NAME}: no-changelog *
+# The units are started by hand: one wants a file, one a log. Only their list is read anew.
+{NAME}: maintainer-script-calls-systemctl *
 """
 
 
@@ -182,12 +180,19 @@ def write_pages(root: Root, program: pathlib.Path, version: str) -> None:
              ("xqs", "the client of xq_server", client)]
     pages += [(f"xqs-{name}", summary, f"{client} {name}") for name, summary in commands().items()]
     for name, summary, command in pages:
-        words = ["help2man", "--no-info", f"--name={summary}", f"--version-string={version}",
-                 "--no-discard-stderr", command]
-        page = run(words, client_environment())
-        title = name.upper().replace("-", "\\-")
-        page = re.sub(r'^\.TH \S+ "1"', f'.TH {title} "1"', page, flags=re.MULTILINE)
+        page = manual_page(name, summary, command, version)
         root.compressed(f"usr/share/man/man1/{name}.1.gz", page)
+
+
+def manual_page(name: str, summary: str, command: str, version: str) -> str:
+    """The manual page of a command, from its `--help`."""
+    with tempfile.TemporaryDirectory(prefix="xq-deb-") as folder:
+        # (help2man calls the page as the file that it runs)
+        script = pathlib.Path(folder) / name
+        script.write_text(f'#!/bin/sh\nexec {command} "$@"\n')
+        script.chmod(0o755)
+        return run(["help2man", "--no-info", f"--name={summary}", f"--version-string={version}",
+                    "--no-discard-stderr", str(script)], client_environment())
 
 
 def completion() -> str:
@@ -229,8 +234,8 @@ def write_control(root: Root, version: str, day: str, author: str, is_unproved: 
         f"{NAME} ({version}) unstable; urgency=medium\n\n  * Commit {commit}.\n\n"
         f" -- {author}  {day}\n"))
     root.write(DOCS / "copyright", (
-        f"xq_server, commit {commit}.\n\nCopyright: the authors of xq_server, whom its history "
-        "names.\nNo licence is granted beyond what the repository says.\n"))
+        f"xq_server, commit {commit}.\n\nCopyright {day.split()[3]} the authors of xq_server, whom "
+        "its history names.\nNo licence is granted beyond what the repository says.\n"))
     root.write(f"usr/share/lintian/overrides/{NAME}", OVERRIDES)
     kilobytes = sum(it.stat().st_size for it in root.files()) // 1024 + 1
     root.write("DEBIAN/control", control(version, author, kilobytes, is_unproved))
