@@ -1,8 +1,10 @@
 #!/usr/bin/env bash
 # Makes one archive of the proved program, for systems without the toolchain.
 #
-#   tools/release.sh --gate LOG      LOG is what `rt ci` printed for this commit
-#   tools/release.sh --unproved      of the program before any proof, where this script is tried
+#   tools/release.sh --gate LOG [--deb]     LOG is what `rt ci` printed for this commit
+#   tools/release.sh --unproved [--deb]     of the program before any proof, to try this script
+#
+# With --deb a package for Debian is made beside it (dpkg-deb, help2man).
 #
 # The archive goes to out/release, with its checksum. It has ./serve and ./demo, the program, README
 # and docs, the clients, a licence where there is one, the text of what was proved, and a checksum
@@ -92,8 +94,8 @@ try() {
 is_unproved=
 gate=
 case ${1-} in
---gate) gate=$(gate_line "${2:?}") ;;
---unproved) is_unproved=yes ;;
+--gate) gate=$(gate_line "${2:?}"); shift 2 ;;
+--unproved) is_unproved=yes; shift ;;
 *) sed -n '2,/^set/{s/^# \{0,1\}//;/^set/d;p}' "${BASH_SOURCE[0]}" >&2; exit 2 ;;
 esac
 [ -z "$(git status --porcelain)" ] || fail "the work tree differs from the last commit"
@@ -116,3 +118,6 @@ mkdir -p out/release
 (cd "$room" && sha256sum "$name.tar.gz" >"$name.tar.gz.sha256")
 mv "$room/$name.tar.gz" "$room/$name.tar.gz.sha256" out/release/
 echo "out/release/$name.tar.gz"
+if [ "${1-}" = --deb ]; then
+    tools/package_deb.py "$program" out/release ${is_unproved:+--unproved}
+fi
