@@ -10,6 +10,7 @@ import random
 import re
 import shutil
 import subprocess
+import unicodedata
 import unittest
 from collections import Counter
 from collections.abc import Iterator
@@ -42,8 +43,12 @@ OURS = {
 THEIRS = {
     "namespaces, which are not judged here": ("namespace", "Relative namespace"),
     "a declaration that a byte order mark belies": ("Document labelled",),
+    "bytes that browsers read": ("input conversion failed",),
 }
 """Why a file that is taken here may be refused by libxml2."""
+SHIFT_JIS = re.compile(rb"""encoding=["'](?:shift_jis|x-sjis)["']""", re.IGNORECASE)
+AS_BROWSERS = str.maketrans({"\N{YEN SIGN}": "\\", "\N{OVERLINE}": "~"})
+"""How two bytes of Shift_JIS are read here, which libxml2 reads otherwise."""
 
 
 def files() -> list[Path]:
@@ -100,6 +105,18 @@ def reason(text: str, reasons: dict[str, tuple[str, ...]]) -> str:
     return next((name for name, marks in reasons.items() if any(it in text for it in marks)), "")
 
 
+def likeness(data: bytes, back: bytes | None, theirs: bytes) -> str:
+    """Why a canonical form is as good as theirs; empty where it is another one."""
+    if back == theirs or back is None:
+        return "the same" if back is not None else ""
+    one, other = back.decode(), theirs.decode()
+    if unicodedata.normalize("NFC", one) == unicodedata.normalize("NFC", other):
+        return "the same, with letters and points apart"
+    if SHIFT_JIS.search(data[:200]) and one == other.translate(AS_BROWSERS):
+        return "the same, by browsers' Shift_JIS"
+    return ""
+
+
 @unittest.skipUnless(shutil.which("xmllint"), "it wants xmllint, of Debian's libxml2-utils")
 class Files(ServerTest):
     def setUp(self) -> None:
@@ -129,7 +146,7 @@ class Files(ServerTest):
         refusal = self.round_trip(here)
         if refusal is None and theirs is not None:
             back, _ = canonical(here)
-            return "the same" if back == theirs else self.fault(file, "is another one")
+            return likeness(data, back, theirs) or self.fault(file, "is another one")
         if refusal is None:
             return f"taken: {reason(said, THEIRS) or self.fault(file, said[:300])}"
         if theirs is None:

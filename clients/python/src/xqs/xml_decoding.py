@@ -37,6 +37,9 @@ _OTHER_NAMES = {
     "x-mac-roman": "mac-roman", "x-mac-cyrillic": "mac-cyrillic", "windows-31j": "cp932",
     "gb_2312-80": "gb2312",
 }
+_READ_AS = {"big5": "cp950", "tis-620": "cp874"}
+"""Codecs in whose place stand those by which browsers and glibc read the name: Python's own have an
+older table of Big5's signs, and controls where Thai texts have quotation marks."""
 _HEAD = 1 << 16
 """A declaration has so many bytes at most."""
 _LEAST = len("<?xml ".encode("utf-32-be"))
@@ -126,7 +129,7 @@ def codec_of(name: str) -> str:
         found = codecs.lookup(_OTHER_NAMES.get(name.lower(), name)).name
     except LookupError:
         return ""
-    return found if _KNOWN.fullmatch(found) else ""
+    return _READ_AS.get(found, found) if _KNOWN.fullmatch(found) else ""
 
 
 def _declared(head: bytes, begins: str) -> str:
