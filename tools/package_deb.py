@@ -234,8 +234,8 @@ def write_control(root: Root, version: str, day: str, author: str, is_unproved: 
         f"{NAME} ({version}) unstable; urgency=medium\n\n  * Commit {commit}.\n\n"
         f" -- {author}  {day}\n"))
     root.write(DOCS / "copyright", (
-        f"xq_server, commit {commit}.\n\nCopyright {day.split()[3]} the authors of xq_server, whom "
-        "its history names.\nNo licence is granted beyond what the repository says.\n"))
+        f"xq_server, commit {commit}.\n\nCopyright {day.split()[3]} the authors of xq_server, "
+        "whom its history names.\nNo licence is granted beyond what the repository says.\n"))
     root.write(f"usr/share/lintian/overrides/{NAME}", OVERRIDES)
     kilobytes = sum(it.stat().st_size for it in root.files()) // 1024 + 1
     root.write("DEBIAN/control", control(version, author, kilobytes, is_unproved))

@@ -107,8 +107,8 @@ def server_of(given: argparse.Namespace) -> Endpoint:
 
     ValueError where nothing says so, or it is no such place.
     """
-    where = (given.server or os.environ.get(SERVER_VARIABLE) or checkout_server()
-             or shutil.which(INSTALLED_SERVER))
+    installed = shutil.which(INSTALLED_SERVER)
+    where = given.server or os.environ.get(SERVER_VARIABLE) or checkout_server() or installed
     if not where:
         raise ValueError(f"no server is named: give --server, or set {SERVER_VARIABLE}")
     place = endpoint(where)
