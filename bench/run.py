@@ -2,18 +2,23 @@
 """Runs benchmarks, one after another, over one workspace: the libraries are proved once.
 
     bench/run.py NAME ..      bench/run.py all      bench/run.py --list
+    bench/run.py --write NAME ..
 
 Those of the libraries are built in out/bench; those of the program take the one that `./serve` has
-proved, or that --server names. What each prints goes to standard output, below its name. Status 1
-where one fails or misses a bound of its own. Beside a gate, or after one: tools/over_gate.py CLONE
-python3 bench/run.py ..
+proved, or that --server names. What each prints goes to standard output, below its name; with
+--write its tables go into docs/MEASURES.md as well, between the marks of its name, with the day,
+the commit and the machine. Status 1 where one fails or misses a bound of its own. Beside a gate, or
+after one: tools/over_gate.py CLONE python3 bench/run.py ..
 """
 
 import argparse
+import datetime
 import os
 import pathlib
 import subprocess
 import sys
+
+import figures
 
 BENCH = pathlib.Path(__file__).resolve().parent
 sys.path.insert(0, str(BENCH.parent / "tools"))
@@ -38,11 +43,30 @@ def command_of(name: str, server: str | None) -> list[str]:
     return [*words, "--server", server] if server and name in OF_PROGRAM else words
 
 
+def run(name: str, server: str | None, is_written: bool) -> bool:
+    """Runs a benchmark; whether it ended well. What it prints is shown as it comes."""
+    command = command_of(name, server)
+    if not is_written:
+        return subprocess.run(command, cwd=BENCH.parent).returncode == 0
+    printed = []
+    with subprocess.Popen(command, cwd=BENCH.parent, stdout=subprocess.PIPE, text=True) as bench:
+        assert bench.stdout is not None
+        for line in bench.stdout:
+            print(line, end="", flush=True)
+            printed.append(line)
+    head = figures.heading(figures.commit_of(), datetime.date.today(), os.getloadavg()[0])
+    page = figures.PAGE.read_text(encoding="utf-8")
+    figures.PAGE.write_text(figures.written(page, name, head, "".join(printed)), encoding="utf-8")
+    return bench.returncode == 0
+
+
 def main() -> int:
+    """Carries out the command."""
     parser = argparse.ArgumentParser(description=__doc__.partition("\n")[0])
     parser.add_argument("names", nargs="*", metavar="NAME", choices=[*NAMES, "all", []])
     parser.add_argument("--list", action="store_true", help="prints the names")
     parser.add_argument("--server", metavar="COMMAND")
+    parser.add_argument("--write", action="store_true", help="into docs/MEASURES.md as well")
     given = parser.parse_args()
     if given.list or not given.names:
         print(*NAMES)
@@ -52,7 +76,12 @@ def main() -> int:
     failed = []
     for name in NAMES if "all" in given.names else given.names:
         print(f"== {name}", flush=True)
-        if subprocess.run(command_of(name, given.server), cwd=BENCH.parent).returncode:
+        try:
+            is_good = run(name, given.server, given.write)
+        except figures.NoMark as error:
+            print(f"run: {error}")
+            is_good = False
+        if not is_good:
             failed.append(name)
     if failed:
         print("failed:", *failed)

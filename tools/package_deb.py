@@ -214,8 +214,8 @@ def completion() -> str:
 
 def control(version: str, author: str, kilobytes: int, is_unproved: bool) -> str:
     """The description of the package."""
-    note = " Nothing of this program is proved: it checks itself as it runs.\n" if is_unproved else (
-        " The server's replies are proved to be the meaning of their requests.\n")
+    note = (" Nothing of this program is proved: it checks itself as it runs.\n" if is_unproved
+            else " The server's replies are proved to be the meaning of their requests.\n")
     return (
         f"Package: {NAME}\nVersion: {version}\nArchitecture: amd64\nSection: database\n"
         f"Priority: optional\nMaintainer: {author}\nInstalled-Size: {kilobytes}\n"

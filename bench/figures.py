@@ -1,0 +1,55 @@
+"""The figures of docs/MEASURES.md that a benchmark writes itself, between two marks."""
+
+from __future__ import annotations
+
+import datetime
+import pathlib
+import platform
+import re
+import subprocess
+
+TOP = pathlib.Path(__file__).resolve().parent.parent
+PAGE = TOP / "docs" / "MEASURES.md"
+
+
+class NoMark(Exception):
+    """The page has no marks for a benchmark."""
+
+
+def commit_of(top: pathlib.Path = TOP) -> str:
+    """The last commit, and whether the work tree differs from it."""
+    def said(*words: str) -> str:
+        return subprocess.run(["git", *words], cwd=top, capture_output=True, text=True,
+                              check=True).stdout.strip()
+    changes = " and changes" if said("status", "--short") else ""
+    return said("rev-parse", "--short=12", "HEAD") + changes
+
+
+def heading(commit: str, day: datetime.date, load: float) -> str:
+    """What says when, of what and where a benchmark ran."""
+    return f"{day}, commit {commit}, {processor()}, load {load:.0f}"
+
+
+def processor() -> str:
+    """The processor's name."""
+    try:
+        found = re.search(r"^model name\s*: (.+)$", pathlib.Path("/proc/cpuinfo").read_text(),
+                          re.MULTILINE)
+    except OSError:
+        found = None
+    return " ".join(found[1].split()) if found else platform.machine()
+
+
+def block(printed: str) -> str:
+    """What a benchmark printed, as it stands in a page: its tables, or all of it as it is."""
+    lines = [it.rstrip() for it in printed.strip().splitlines()]
+    tables = [it for it in lines if it.startswith("|")]
+    return "\n".join(tables if tables else ["```", *lines, "```"])
+
+
+def written(page: str, name: str, head: str, printed: str) -> str:
+    """The page with what the benchmark printed between its marks; NoMark."""
+    marks = re.compile(rf"(<!-- bench {re.escape(name)} -->\n).*?(<!-- end -->)", re.DOTALL)
+    if not marks.search(page):
+        raise NoMark(f"docs/MEASURES.md has no marks <!-- bench {name} --> .. <!-- end -->")
+    return marks.sub(lambda it: f"{it[1]}{head}\n\n{block(printed)}\n{it[2]}", page)
