@@ -137,6 +137,17 @@ def program_trials(given: Given) -> Iterator[Trial]:
                 wants=queried)
 
 
+def release_trials(given: Given) -> Iterator[Trial]:
+    """The package for Debian, installed in a bare system."""
+    words = ["python3", "tools/try_deb.py", "--program", *given.server[:1]]
+    yield Trial("debian_package", words, (), ("debootstrap", "help2man", "dpkg-deb"), as_root)
+
+
+def as_root(given: Given) -> str:
+    """What is missing where a bare system is made."""
+    return built(given) or ("" if os.geteuid() == 0 else "it has to be root")
+
+
 def library_trials(given: Given) -> Iterator[Trial]:
     """The scripts that build a program of their own over proved libraries."""
     over = ["python3", "tools/over_gate.py", given.gate or ""]
@@ -220,7 +231,8 @@ def main() -> int:
     parser.add_argument("names", nargs="*", metavar="NAME")
     words = parser.parse_args()
     given = given_by(words)
-    trials = [*client_trials(given), *program_trials(given), *library_trials(given)]
+    trials = [*client_trials(given), *program_trials(given), *release_trials(given),
+              *library_trials(given)]
     left_out = {trial.name: why for trial in trials if (why := missing(trial, given))}
     wanted = chosen(trials, words.names)
     if words.list:

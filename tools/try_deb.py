@@ -2,20 +2,25 @@
 """Installs a Debian package of the server in a bare Debian, and uses it there.
 
     tools/try_deb.py PACKAGE [--mirror URL]
+    tools/try_deb.py --program PROGRAM      of a program as it was built: makes the package first
 
-Wants debootstrap, root and a mirror of Debian. The bare system lies in a folder for temporary
-files, and is gone at the end. Status 1 where something is wrong, which is printed.
+Wants debootstrap, root and a mirror of Debian; lintian where it is there. The bare system lies in a
+folder for temporary files, and is gone at the end. Status 1 where something is wrong, which is
+printed.
 """
 
 from __future__ import annotations
 
 import argparse
 import pathlib
+import shlex
 import shutil
 import subprocess
 import sys
 import tempfile
 from collections.abc import Sequence
+
+import package_deb
 
 MIRROR = "http://deb.debian.org/debian"
 SUITE = "bookworm"
@@ -49,7 +54,8 @@ def run(words: Sequence[str], data: bytes | None = None) -> bytes:
     """What a command prints; Wrong where it fails."""
     ended = subprocess.run(words, input=data, capture_output=True)
     if ended.returncode:
-        raise Wrong(f"{' '.join(words)}: {ended.stderr.decode(errors='replace').strip()[-2000:]}")
+        said = (ended.stdout + ended.stderr).decode(errors="replace").strip()[-2000:]
+        raise Wrong(f"{shlex.join(words)}: {said}")
     return ended.stdout
 
 
@@ -60,7 +66,11 @@ def within(root: pathlib.Path, command: str, data: bytes | None = None) -> bytes
 
 
 def install(root: pathlib.Path, package: pathlib.Path, mirror: str) -> None:
-    """Makes the bare system with the package in it."""
+    """Makes the bare system with the package in it, of which lintian says nothing."""
+    if shutil.which("lintian"):
+        said = run(["lintian", "--allow-root", str(package)]).decode()
+        if said.strip():
+            raise Wrong(said)
     run(["debootstrap", "--variant=minbase", f"--include={INCLUDED}", SUITE, str(root), mirror])
     shutil.copy(package, root / "tmp" / "it.deb")
     run(["mount", "-t", "proc", "proc", str(root / "proc")])
@@ -72,7 +82,10 @@ def check(root: pathlib.Path) -> list[str]:
     """What is wrong with the package that is installed there."""
     found = []
     for command, expected in STEPS:
-        printed = within(root, command).decode(errors="replace")
+        try:
+            printed = within(root, command).decode(errors="replace")
+        except Wrong as error:
+            printed = str(error)
         if expected not in printed:
             found.append(f"{command}\n  prints {printed!r}\n  without {expected!r}")
         if command.startswith("xqs backup"):
@@ -85,15 +98,19 @@ def check(root: pathlib.Path) -> list[str]:
 def main(words: Sequence[str] | None = None) -> int:
     """Carries out the command."""
     parser = argparse.ArgumentParser(description=__doc__.partition("\n")[0])
-    parser.add_argument("package", type=pathlib.Path)
+    parser.add_argument("package", type=pathlib.Path, nargs="?")
+    parser.add_argument("--program", type=pathlib.Path)
     parser.add_argument("--mirror", default=MIRROR)
     given = parser.parse_args(words)
+    if (given.package is None) == (given.program is None):
+        parser.error("it wants a package, or a program")
     room = pathlib.Path(tempfile.mkdtemp(prefix="xq-deb-"))
     root = room / "root"
     try:
-        install(root, given.package, given.mirror)
+        made = given.package or package_deb.package(given.program.resolve(), room, False)
+        install(root, made, given.mirror)
         wrong = check(root)
-    except Wrong as error:
+    except (Wrong, package_deb.NotPackaged) as error:
         wrong = [str(error)]
     finally:
         subprocess.run(["umount", str(root / "proc")], capture_output=True)
