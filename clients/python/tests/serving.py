@@ -147,17 +147,19 @@ class RunningMux(Running):
     """A multiplexer that runs, over the server of XQS_SERVER or another command.
 
     `options` are words before the `--`; with `on_file` the documents live in a file of `folder`.
+    There is one server, unless `servers` says otherwise: 0 is as many as `xqs mux` has by itself.
     """
 
     def __init__(self, *options: str, on_file: bool = True, place: str = "",
-                 command: list[str] | None = None) -> None:
+                 command: list[str] | None = None, servers: int = 1) -> None:
         self._folder = tempfile.TemporaryDirectory(prefix="xqs-mux-")
         self.folder = Path(self._folder.name)
         self.place = place or f"unix:{self.folder}/xq.sock"
         self.command = command or server_command()
         if on_file:
             self.command += ["--file", str(self.folder / "x.db")]
-        self.run(["mux", self.place, *options, "--", *self.command], self.folder / "errors")
+        some = ["--servers", str(servers)] if servers else []
+        self.run(["mux", self.place, *some, *options, "--", *self.command], self.folder / "errors")
         self.place = self.wait_for("listens at ").split()[0]
 
     def connect(self) -> "Connection":

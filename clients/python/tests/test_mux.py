@@ -28,11 +28,14 @@ def run_mux(*words: str) -> subprocess.CompletedProcess[str]:
 
 
 class MuxTest(FolderTest):
-    """A multiplexer of its own for each test."""
+    """A multiplexer of its own for each test, with so many servers."""
+
+    servers = 1
 
     def mux(self, *options: str, on_file: bool = True, place: str = "") -> RunningMux:
         """A multiplexer that ends with the test."""
-        return self.enterContext(RunningMux(*options, on_file=on_file, place=place))
+        return self.enterContext(
+            RunningMux(*options, on_file=on_file, place=place, servers=self.servers))
 
     def client(self, mux: RunningMux) -> Connection:
         """A connection that ends with the test."""

@@ -30,10 +30,12 @@ class Answer(NamedTuple):
 class RunningWeb:
     """A web server that runs, by default over a server on a file of its own.
 
-    `words` are those of the command line; with `place` it connects there and starts no server.
+    `words` are those of the command line; with `place` it connects there and starts no server, else
+    it has so many `servers`.
     """
 
-    def __init__(self, *words: str, place: str = "", has_token: bool = True) -> None:
+    def __init__(self, *words: str, place: str = "", has_token: bool = True,
+                 servers: int = 1) -> None:
         self._folder = tempfile.TemporaryDirectory(prefix="xqs-web-test-")
         self.folder = Path(self._folder.name)
         self.token_file = self.folder / "token"
@@ -41,14 +43,15 @@ class RunningWeb:
             self.token_file.touch(mode=0o600)
             self.token_file.write_text(TOKEN + "\n")
             words = (*words, "--token-file", str(self.token_file))
-        server = ["--server", place] if place else ["--", *file_server(self.folder / "x.db")]
+        command = ["--servers", str(servers), "--", *file_server(self.folder / "x.db")]
+        server = ["--server", place] if place else command
         self.errors = self.folder / "errors"
         with self.errors.open("wb") as errors:
             self.process = subprocess.Popen(
                 [sys.executable, "-m", "xqs", "web", "--listen", "0", *words, *server],
                 cwd=SOURCES, stdin=subprocess.DEVNULL, stdout=errors, stderr=errors)
         try:
-            self.url = self._wait_for("listens at ").strip()
+            self.url = self.wait_for("listens at ").strip()
         except BaseException:
             self.process.kill()
             self.process.wait()
@@ -59,7 +62,8 @@ class RunningWeb:
         """What it has said so far."""
         return self.errors.read_text()
 
-    def _wait_for(self, words: str) -> str:
+    def wait_for(self, words: str) -> str:
+        """Waits until the words are said; gives the rest of their line."""
         end = time.monotonic() + PATIENCE
         while words not in self.said():
             if time.monotonic() > end or self.process.poll() is not None:

@@ -436,8 +436,24 @@ class Ends(WebTest):
         self.check_refused(answers[0], 503, "store")
         self.assertEqual(answers[0].headers["Retry-After"], "1")
 
+    def test_several_servers_and_their_figures(self) -> None:
+        with RunningWeb(servers=3) as web:
+            for number in (2, 3):
+                web.wait_for(f"server {number} holds the documents")
+            self.assertEqual(web.put("a", BOOK).status, 201)
+            for _ in range(6):
+                self.check(web.ask("GET", "/rest/a"), 200, BOOK)
+            figures = web.ask("GET", "/metrics")
+            self.assertEqual(figures.headers["Content-Type"].partition(";")[0], "text/plain")
+            self.assertIn('xqs_server_ready{server="3",holds="memory"} 1\n', figures.body)
+            self.assertIn("server 1: ready, documents in file", web.ask("GET", "/status").body)
+            self.assertEqual(web.ask("GET", "/metrics", Host="evil.example").status, 403)
+            web.ask("GET", asked("cuont(1)"))
+            web.wait_for("refused XPST0017")
+
     def test_it_stands_before_a_multiplexer(self) -> None:
         with RunningMux() as mux, RunningWeb(place=mux.place) as web:
+            self.assertIn("xqs_clients ", web.ask("GET", "/metrics").body)
             self.check(web.put("a", BOOK), 201)
             self.check(web.ask("GET", "/rest/a"), 200, BOOK)
             self.assertEqual(mux.terminate(), 0)

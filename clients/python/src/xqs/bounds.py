@@ -23,6 +23,7 @@ SHOWN_ADDRESSES = 10
 """So many addresses of lost documents stand in a message."""
 _UNITS = {"": 1, "K": 1 << 10, "M": 1 << 20, "G": 1 << 30, "T": 1 << 40}
 _SIZE = re.compile(r"(\d+(?:\.\d+)?)\s*([KMGT]?)(?:i?B)?", re.IGNORECASE)
+_ROOT = Path("/sys/fs/cgroup")
 _GROUPS = (Path("/sys/fs/cgroup/memory.max"), Path("/sys/fs/cgroup/memory/memory.limit_in_bytes"))
 """Where a container's bound stands, by the two versions of the kernel's groups."""
 
@@ -34,12 +35,24 @@ class NoBound(XqError, ValueError):
 def half_of_memory() -> int:
     """Half of the memory that this machine has, or this container may take, in bytes."""
     whole = os.sysconf("SC_PHYS_PAGES") * os.sysconf("SC_PAGE_SIZE")
-    for file in _GROUPS:
+    for file in (*_GROUPS, *_own_groups()):
         try:
             whole = min(whole, int(file.read_text(encoding="ascii")))
         except (OSError, ValueError):
             continue
     return whole // 2
+
+
+def _own_groups() -> list[Path]:
+    """Where the bounds of the group stand that this process is in, as a unit of systemd has them,
+    and of the groups around it."""
+    try:
+        text = Path("/proc/self/cgroup").read_text(encoding="utf-8")
+    except (OSError, ValueError):
+        return []
+    names = [line.removeprefix("0::/") for line in text.splitlines() if line.startswith("0::/")]
+    group = Path(names[0]) if names else Path()
+    return [_ROOT / it / "memory.max" for it in (group, *group.parents)]
 
 
 @dataclass(frozen=True)

@@ -63,7 +63,8 @@ COMMANDS = {
     "restore": Entry("xqs.backup:restore_main", "store the documents of a backup", 1),
     "gc": Entry("xqs.gc:main", "drop temporary documents that a crash left"),
     "shell": Entry("xqs.shell:main", "ask queries by hand"),
-    "mux": Entry("xqs.mux:main", "one server for many clients", has_command=True),
+    "mux": Entry("xqs.mux:main", "one server or several for many clients", has_command=True),
+    "status": Entry("xqs.mux_control:status_main", "how a multiplexer that runs does", 1),
     "node": Entry(
         "xqs.cluster.main:main", "a server that follows a replicated log", has_command=True),
     "snapshot": Entry(

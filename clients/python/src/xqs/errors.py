@@ -51,10 +51,14 @@ SENTENCES = {
     "prof:ADDRESS": "the bytes are no address",
     "prof:ABSENT": "there is no document at that address",
     "prof:NOTDOC": "what is to be stored is not exactly one document",
-    # Of status 2.
-    # What `xqs mux` refuses by itself.
+    # What `xqs mux` refuses by itself; the last two come with status 2.
     "xqs:READONLY": "nothing can be stored or dropped here; the multiplexer runs with --read-only",
     "xqs:SECONDS": "the query took longer than the multiplexer allows (--seconds N, 0: any time)",
+    "xqs:MEMORY": "the server ended for want of memory at the request (--memory SIZE allows more)",
+    "xqs:LINE": "too many stores and drops wait for the server, or one has waited for too long; "
+    "nothing has changed, the request may be sent again",
+    "xqs:DIFFER": "servers gave different replies, so nothing is stored or dropped any more; who "
+    "runs the multiplexer has to look at what it said",
     # Status 2.
     "memory": "the server ran out of memory (--memory SIZE allows more); nothing has changed, the "
     "request may be sent again",

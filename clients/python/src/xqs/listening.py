@@ -7,10 +7,14 @@ import stat
 from collections.abc import Iterator
 from contextlib import contextmanager, suppress
 
-from xqs.endpoints import LoopbackPort, UnixSocket, endpoint
+from xqs.endpoints import LOOPBACK, LoopbackPort, UnixSocket, endpoint
 from xqs.errors import XqError
 
 BACKLOG = 128
+SYSTEMD = "systemd:"
+"""The socket with which systemd starts a program."""
+FIRST_INHERITED = 3
+"""The number of the first file that systemd gives."""
 
 
 class PlaceError(XqError):
@@ -25,6 +29,8 @@ def listen(where: str) -> socket.socket:
     port 0 is any that is free. Raises PlaceError.
     """
     try:
+        if where == SYSTEMD:
+            return inherited()
         place = endpoint(where)
         if isinstance(place, UnixSocket):
             return listen_unix(place.path)
@@ -35,6 +41,32 @@ def listen(where: str) -> socket.socket:
     except ValueError as error:
         raise PlaceError(f"{where}: {error}") from error
     raise PlaceError(f"{where}: neither unix:PATH nor tcp:PORT")
+
+
+def inherited() -> socket.socket:
+    """The one socket that systemd gives with the start. Raises PlaceError."""
+    if not _is_inherited(FIRST_INHERITED) or os.environ.get("LISTEN_FDS") != "1":
+        raise PlaceError(f"{SYSTEMD}: systemd has given no socket, or more than one")
+    os.set_inheritable(FIRST_INHERITED, False)
+    listener = socket.socket(fileno=FIRST_INHERITED)
+    is_own = listener.family == socket.AF_UNIX or listener.getsockname()[0] in LOOPBACK
+    if listener.type != socket.SOCK_STREAM or not is_own:
+        raise PlaceError(f"{SYSTEMD}: neither a Unix socket nor a port of loopback")
+    return listener
+
+
+def _is_inherited(number: int) -> bool:
+    return number == FIRST_INHERITED and os.environ.get("LISTEN_PID") == str(os.getpid())
+
+
+def notify(state: str) -> None:
+    """Tells systemd how this program does, where that has started it and wants to know."""
+    place = os.environ.get("NOTIFY_SOCKET")
+    if not place:
+        return
+    with suppress(OSError), socket.socket(socket.AF_UNIX, socket.SOCK_DGRAM) as connection:
+        connection.connect("\0" + place[1:] if place.startswith("@") else place)
+        connection.sendall(state.encode())
 
 
 def listen_unix(path: str) -> socket.socket:
@@ -95,8 +127,9 @@ def name_of(listener: socket.socket) -> str:
 
 @contextmanager
 def removed_at_end(listener: socket.socket) -> Iterator[None]:
-    """At the end the file of a Unix socket is removed, if it still is the same one."""
-    if listener.family != socket.AF_UNIX:
+    """At the end the file of a Unix socket is removed, if it still is the same one; one that
+    systemd has given stays."""
+    if listener.family != socket.AF_UNIX or _is_inherited(listener.fileno()):
         yield
         return
     path = pathlib.Path(listener.getsockname())

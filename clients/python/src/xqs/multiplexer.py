@@ -2,17 +2,21 @@
 
 import asyncio
 import time
-from collections.abc import Callable, Sequence
+from collections.abc import Awaitable, Callable, Sequence
 
 from xqs.bounds import lost, overdue
+from xqs.errors import XqError
+from xqs.metrics import Metrics, Report, ServerReport, holds_in
 from xqs.mux_backend import Backend, StartFailed
 from xqs.mux_clients import Clients, Settings
 from xqs.mux_peer import Request, refusal
 from xqs.protocol import Kind, Status
 from xqs.starting import is_on_file as is_on_file
+from xqs.watching import ended_by_memory, resident
 
 WANTING_STORE = bytes([Status.WANTING]) + b"store"
 TOO_SLOW = refusal("xqs:SECONDS")
+TOO_LARGE = refusal("xqs:MEMORY")
 START_DELAYS = (0.0, 0.1, 0.5, 1.0, 2.0)
 """Seconds before each try to start the server again; after the last the multiplexer gives up."""
 VAIN_STARTS = 4
@@ -48,7 +52,7 @@ class Multiplexer:
         self._turn = asyncio.Lock()
         self._window = asyncio.Semaphore(settings.window)
         self._tasks: list[asyncio.Task[None]] = []
-        self._vain_starts = 0
+        self._vain_starts = self._restarts = 0
         self._left: Backend | None = None
         self._looked = 0.0
         self._look: asyncio.Task[None] | None = None
@@ -153,6 +157,7 @@ class Multiplexer:
         """
         in_flight = list(old.in_flight)
         old.in_flight.clear()
+        self._restarts += 1
         self._say_why(old, len(in_flight))
         behind = self._settle(old, in_flight)
         if not self._on_file and (self._addresses or old is not self._left):
@@ -186,8 +191,15 @@ class Multiplexer:
             return [front, *behind]
         if front.peer:
             self._window.release()
-            self._tell(front, TOO_SLOW if old.overdue is front else WANTING_STORE)
+            self._tell(front, self._blame(old))
         return behind
+
+    @staticmethod
+    def _blame(old: Backend) -> bytes:
+        """What the query gets at which a server ended."""
+        if old.overdue:
+            return TOO_SLOW
+        return TOO_LARGE if ended_by_memory(old, "", 0, None) else WANTING_STORE
 
     @staticmethod
     def _tell(front: Request, reply: bytes) -> None:
@@ -218,6 +230,24 @@ class Multiplexer:
         self._clients.refuse_new()
         self.failed.set()
         self._clients.end_all()
+
+    @property
+    def metrics(self) -> Metrics:
+        """What was counted of the replies."""
+        return self._clients.metrics
+
+    def report(self) -> Report:
+        """How the server and its clients do."""
+        backend, process = self._backend, self._backend.process.pid
+        server = ServerReport(
+            1, holds_in(self._on_file), "down" if backend.ended.is_set() else "ready",
+            backend.frames, len(backend.in_flight), resident(process), self._restarts)
+        return Report([server], len(self._clients))
+
+    async def upgrade(self, command: Sequence[str], say: Callable[[str], Awaitable[None]]) -> None:
+        """Refused: another program is taken over where there are several servers."""
+        raise XqError("there is one server, which has to end before another program can take its "
+                      "place: start the multiplexer anew, or with --servers 2 or more")
 
     async def stop(self) -> None:
         """Answers the frames that were read, ends the clients and then the server."""

@@ -4,21 +4,28 @@ import argparse
 import asyncio
 import contextlib
 import dataclasses
+import os
 import signal
 import sys
-from collections.abc import Sequence
+from collections.abc import AsyncIterator, Callable, Sequence
+from contextlib import AsyncExitStack, asynccontextmanager
 
-from xqs import listening
+from xqs import control, listening
 from xqs.bounds import bounds_of
 from xqs.cli import connection_options, server_of
 from xqs.endpoints import Command
+from xqs.listening import notify
+from xqs.metrics_http import MetricsServer
 from xqs.multiplexer import Multiplexer, is_on_file
 from xqs.mux_clients import Settings
+from xqs.mux_control import Multiplexing, actions_of, ask_upgrade, figures_of, lines_of
+from xqs.mux_many import ManyServers
 from xqs.waiting import first_set
 
 USAGE = "xqs mux [OPTIONS] unix:PATH|tcp:PORT [-- COMMAND [WORDS]]"
 EXAMPLE = "as is ./serve in: xqs mux unix:xq.sock -- ./serve --file x.db"
 DEFAULTS = Settings()
+MOST_SERVERS = 4
 
 
 def say(text: str, command: str = "mux") -> None:
@@ -51,7 +58,45 @@ def add_limits(parser: argparse.ArgumentParser) -> None:
           help="frames of all clients that wait for replies (%(default)s)")
     limit("--frames", type=positive, metavar="N", default=DEFAULTS.frames,
           help="start the server again after so many frames (%(default)s)")
+    add_servers(parser)
     add_client_limits(parser, DEFAULTS)
+
+
+def add_servers(parser: argparse.ArgumentParser) -> None:
+    """Adds the options of several servers."""
+    option = parser.add_argument_group("servers").add_argument
+    option("--servers", type=positive, metavar="N", default=default_servers(),
+           help="servers that hold the same documents: reads run side by side, and one that ends "
+           "is replaced while the others answer (%(default)s; the processors less one, at most "
+           f"{MOST_SERVERS})")
+    option("--line", type=positive, metavar="N", default=DEFAULTS.line,
+           help="stores and drops that wait for the server with the file (%(default)s)")
+    option("--line-seconds", type=duration, metavar="N", default=DEFAULTS.line_seconds,
+           help="how long one of them waits while that is started again (%(default)g)")
+    option("--compare", type=natural, metavar="N", default=DEFAULTS.compare,
+           help="one of so many reads is asked of all servers, and where they differ nothing is "
+           "stored any more (%(default)s; 0: none)")
+
+
+def default_servers() -> int:
+    """The processors less one, at least one and at most four."""
+    return max(1, min(len(os.sched_getaffinity(0)) - 1, MOST_SERVERS))
+
+
+def natural(text: str) -> int:
+    """A whole number from 0, for argparse."""
+    number = int(text)
+    if number < 0:
+        raise ValueError
+    return number
+
+
+def multiplexer_of(command: Sequence[str], settings: Settings,
+                   say: Callable[[str], None]) -> Multiplexer | ManyServers:
+    """The multiplexer for so many servers as the settings say."""
+    if settings.servers == 1:
+        return Multiplexer(command, settings, say)
+    return ManyServers(command, settings, say)
 
 
 def add_client_limits(parser: argparse.ArgumentParser, defaults: Settings) -> None:
@@ -75,7 +120,8 @@ def settings_of(arguments: argparse.Namespace) -> Settings:
     bounds = bounds_of(arguments)
     return dataclasses.replace(
         client_settings_of(arguments), window=arguments.window, frames=arguments.frames,
-        seconds=bounds.seconds, memory=bounds.memory)
+        seconds=bounds.seconds, memory=bounds.memory, servers=arguments.servers,
+        line=arguments.line, line_seconds=arguments.line_seconds, compare=arguments.compare)
 
 
 def client_settings_of(arguments: argparse.Namespace) -> Settings:
@@ -107,21 +153,31 @@ async def until_signal(failed: asyncio.Event, again: asyncio.Event) -> None:
     first.set()
 
 
-async def run(place: str, command: Sequence[str], settings: Settings) -> int:
-    """Serves clients at the place until a signal; gives the exit status.
+async def run(place: str, command: Sequence[str], settings: Settings,
+              metrics: str | None = None) -> int:
+    """Serves clients at the place until a signal, and figures at another one; gives the exit
+    status.
 
     Raises StartFailed and PlaceError.
     """
-    multiplexer = Multiplexer(command, settings, say)
+    multiplexer = multiplexer_of(command, settings, say)
     await multiplexer.start()
     again = asyncio.Event()
     hurried = asyncio.create_task(multiplexer.abandon_when(again))
     try:
         listener = listening.listen(place)
-        with listening.removed_at_end(listener):
+        async with AsyncExitStack() as stack:
+            stack.enter_context(listening.removed_at_end(listener))
+            name = listening.name_of(listener)
+            await stack.enter_async_context(
+                control.listening(name, actions_of(multiplexer), say))
+            if metrics:
+                await stack.enter_async_context(figures_at(metrics, multiplexer))
             server = await asyncio.start_server(multiplexer.serve, sock=listener)
-            say(f"listens at {listening.name_of(listener)}")
+            say(f"listens at {name}")
+            notify("READY=1")
             await until_signal(multiplexer.failed, again)
+            notify("STOPPING=1")
         server.close()
         await multiplexer.stop()
         hurried.cancel()
@@ -129,6 +185,25 @@ async def run(place: str, command: Sequence[str], settings: Settings) -> int:
         await multiplexer.abandon()
         raise
     return 1 if multiplexer.failed.is_set() else 0
+
+
+@asynccontextmanager
+async def figures_at(where: str, multiplexer: Multiplexing) -> AsyncIterator[None]:
+    """While the figures can be asked for by HTTP at a port of loopback. PlaceError."""
+    figures = MetricsServer(lambda: figures_of(multiplexer), lambda: lines_of(multiplexer))
+    listener = listening.listen(f"tcp:{where}")
+    server = await asyncio.start_server(figures.serve, sock=listener)
+    say(f"figures at http://{listening.name_of(listener).removeprefix('tcp:')}/metrics")
+    try:
+        yield
+    finally:
+        server.close()
+
+
+def in_memory_warning(servers: int) -> str:
+    """What is said where no file is named."""
+    end = "whenever the server ends" if servers == 1 else "when all servers end at once"
+    return f"the documents live in memory: they are lost {end}"
 
 
 def command_of(words: Sequence[str], given: argparse.Namespace) -> Sequence[str]:
@@ -152,13 +227,22 @@ def main(words: Sequence[str] | None = None) -> int:
     parser = argparse.ArgumentParser(
         prog="xqs mux", usage=USAGE, description=__doc__, parents=[connection_options()]
     )
-    parser.add_argument("place", metavar="unix:PATH|tcp:PORT", help="where clients connect")
+    parser.add_argument("place", metavar="unix:PATH|tcp:PORT|systemd:",
+                        help="where clients connect; systemd: is the socket that systemd gives")
+    parser.add_argument("--upgrade", action="store_true",
+                        help="have the multiplexer that runs at the place take over this command, "
+                        "server by server, and refuse it where it answers otherwise")
+    parser.add_argument("--metrics", metavar="[HOST:]PORT",
+                        help="a port of loopback where HTTP has /metrics, as Prometheus reads it, "
+                        "and a page")
     add_limits(parser)
     given = parser.parse_args(before)
     command = command_of(after, given)
+    if given.upgrade:
+        return ask_upgrade(given.place, command)
     if not is_on_file(command):
-        say("the documents live in memory: they are lost whenever the server ends")
-    return asyncio.run(run(given.place, command, settings_of(given)))
+        say(in_memory_warning(given.servers))
+    return asyncio.run(run(given.place, command, settings_of(given), given.metrics))
 
 
 if __name__ == "__main__":

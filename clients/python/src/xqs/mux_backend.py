@@ -3,6 +3,7 @@
 import asyncio
 import collections
 import contextlib
+import dataclasses
 import os
 import signal
 import time
@@ -23,16 +24,41 @@ BLAMELESS = 0.25
 """Seconds for which a server may be at a query before its end is put down to that query."""
 
 
+class ServerEnded(XqError):
+    """The server ended before its reply."""
+
+
+def _future() -> "asyncio.Future[bytes]":
+    """A future whose failure is nobody's to wait for."""
+    future: asyncio.Future[bytes] = asyncio.get_running_loop().create_future()
+    future.add_done_callback(lambda it: it.cancelled() or it.exception())
+    return future
+
+
+@dataclasses.dataclass(eq=False, slots=True)
+class Own(Request):
+    """A request of this program itself; `done` gives the status and text of its reply."""
+
+    done: "asyncio.Future[bytes]" = dataclasses.field(default_factory=_future)
+
+    def fail(self) -> None:
+        """Its server has ended."""
+        if not self.done.done():
+            self.done.set_exception(ServerEnded("the server ended before its reply"))
+
+
 class StartFailed(XqError):
     """The server ended, or could not be run, before it answered its first frame."""
 
 
 class Backend:
-    """A server that runs: frames go in, and each reply is given to `on_reply` with its request.
+    """A server that runs: frames go in, and each reply is given to `on_reply` with its request, and
+    to whoever asked for it here.
 
     `in_flight` has the requests without a reply, in the order of their frames. The server carries
     out one frame after the other, so that of these only the first may have been carried out when
-    it ends. `frames` counts what was sent to it. With `seconds` the server is killed when it works
+    it ends. `frames` counts what was sent to it, `last_work` is for how many seconds the server was
+    at the request that it answered last. With `seconds` the server is killed when it works
     on one request for longer, and `overdue` is that request.
     """
 
@@ -41,6 +67,7 @@ class Backend:
         self.process = process
         self.in_flight: collections.deque[Request] = collections.deque()
         self.frames = 0
+        self.last_work = 0.0
         self.overdue: Request | None = None
         self.ended = asyncio.Event()
         self._answered = 0
@@ -81,8 +108,25 @@ class Backend:
         if not answered.is_set():
             raise StartFailed(ended_at_start(command, self.status()))
 
+    async def ask(self, payload: bytes) -> bytes:
+        """The status and text of the reply to a request of this program. Raises ServerEnded."""
+        request = Own(None, 0, payload)
+        if self.ended.is_set():
+            raise ServerEnded("the server has ended")
+        await self.send(request)
+        return await request.done
+
     async def send(self, request: Request) -> None:
         """Sends a request, and waits until the pipe has taken it or the server has ended."""
+        self.put(request)
+        assert self.process.stdin is not None
+        try:
+            await self.process.stdin.drain()
+        except OSError:
+            pass
+
+    def put(self, request: Request) -> None:
+        """Sends a request without a wait: what the pipe doesn't take stands in memory."""
         self.in_flight.append(request)
         self.frames += 1
         if len(self.in_flight) == 1:
@@ -94,10 +138,6 @@ class Backend:
         if not pipe.is_closing():
             pipe.write(protocol.framed(message))
         request.unsent = len(self.in_flight) == 1 and pipe.is_closing()
-        try:
-            await pipe.drain()
-        except OSError:
-            pass
 
     async def _read(self) -> None:
         assert self.process.stdout is not None
@@ -112,6 +152,9 @@ class Backend:
         await self.process.wait()
         await self._close_input()
         self.ended.set()
+        for request in self.in_flight:
+            if isinstance(request, Own):
+                request.fail()
 
     async def _close_input(self) -> None:
         assert self.process.stdin is not None
@@ -126,7 +169,10 @@ class Backend:
             if not self.in_flight or protocol.tag_of(message) != self._answered:
                 raise protocol.FrameFault("a reply that no request awaits")
             request = self.in_flight.popleft()
+            self.last_work = self.worked()
             self._watch_front()
+            if isinstance(request, Own) and not request.done.done():
+                request.done.set_result(message[4:])
             self._on_reply(request, message[4:])
 
     def _watch_front(self) -> None:
@@ -147,11 +193,11 @@ class Backend:
         """For how many seconds the server has been at the first request in flight."""
         return time.monotonic() - self._front_since
 
-    def leave_for_nobody(self) -> bool:
-        """Ends a server that has been for a while at a query whose client has gone; whether it
-        was."""
+    def leave_for_nobody(self, patience: float = BLAMELESS) -> bool:
+        """Ends a server that has been for so many seconds at a query whose client has gone; whether
+        it was."""
         front = self.in_flight[0] if self.in_flight else None
-        if front is None or front.peer is None or front.changes() or self.worked() <= BLAMELESS:
+        if front is None or front.peer is None or front.changes() or self.worked() <= patience:
             return False
         if not front.peer.has_gone():
             return False

@@ -7,6 +7,7 @@ from collections.abc import Awaitable, Callable
 
 from xqs import protocol
 from xqs.bounds import SECONDS, half_of_memory
+from xqs.metrics import Metrics
 from xqs.mux_peer import Peer, Request, refusal
 from xqs.protocol import Kind
 
@@ -22,8 +23,12 @@ class Settings:
     Bytes: `unread` of one client's replies, above which its next frame waits; `held` of all
     clients' replies, above which the client with most of them is cut off. Seconds: `stall`, after
     which a client that takes nothing of its replies is cut off; `seconds`, after which a server
-    that still works on one request is ended (None: never), and `memory` is how many bytes it may
-    have (None: any). With `read_only` nothing can be stored or dropped.
+    that still works on one request is ended (None: never), and `memory` is how many bytes all
+    servers may have (None: any). With `read_only` nothing can be stored or dropped.
+
+    `servers` hold the same documents. While the first one is started again `line` stores and drops
+    may wait for it, each for `line_seconds`. One in `compare` reads is asked of all servers (0:
+    none). A request that takes `slow` seconds is told.
     """
 
     clients: int = 200
@@ -36,6 +41,11 @@ class Settings:
     seconds: float | None = SECONDS
     memory: int | None = dataclasses.field(default_factory=half_of_memory)
     read_only: bool = False
+    servers: int = 1
+    line: int = 1_000
+    line_seconds: float = 60.0
+    compare: int = 10_000
+    slow: float = 1.0
 
 
 class Clients:
@@ -53,6 +63,11 @@ class Clients:
         self._handle = handle
         self._peers: dict[Peer, asyncio.Task[None]] = {}
         self._stopping = False
+        self.metrics = Metrics(settings.slow, say)
+
+    def __len__(self) -> int:
+        """How many clients are connected."""
+        return len(self._peers)
 
     async def serve(self, reader: asyncio.StreamReader, writer: asyncio.StreamWriter) -> None:
         """Serves one connection up to its end; what `asyncio.start_server` calls."""
@@ -61,7 +76,8 @@ class Clients:
                 self._say(f"a client more than {self._settings.clients}: it is turned away")
             writer.close()
             return
-        peer = Peer(reader, writer, self._settings.client_window, self._settings.unread)
+        peer = Peer(reader, writer, self._settings.client_window, self._settings.unread,
+                    self.metrics.note)
         task = asyncio.current_task()
         assert task is not None
         self._peers[peer] = task

@@ -4,6 +4,8 @@ import asyncio
 import collections
 import dataclasses
 import select
+import time
+from collections.abc import Callable
 
 from xqs import protocol
 from xqs.protocol import Kind, Status
@@ -23,7 +25,10 @@ class Request:
 
     `reply` is the status and the text of its reply, once there is one. A request without a peer is
     the multiplexer's own. `unsent` says that no byte of it can have reached the server, `repeated`
-    that it has been sent once more.
+    that it has been sent once more. `since` is when it came, `sent` when it was handed to a server.
+
+    Where several servers carry the same writes, `place` is how many writes a read sees, and a read
+    that `is_stale` is asked once more, since one before it was. One that `is_fast` was so before.
     """
 
     peer: "Peer | None"
@@ -32,6 +37,11 @@ class Request:
     reply: bytes | None = None
     unsent: bool = False
     repeated: bool = False
+    since: float = 0.0
+    sent: float = 0.0
+    place: int = -1
+    is_stale: bool = False
+    is_fast: bool = False
 
     @property
     def kind(self) -> bytes:
@@ -48,11 +58,16 @@ class Peer:
 
     Replies leave in the order of the client's frames, also those that the multiplexer makes
     itself. `window` is how many of its frames may wait for their replies, `unread` how many bytes
-    of replies may wait for the client to read them before its next frame is taken.
+    of replies may wait for the client to read them before its next frame is taken. `on_reply` gets
+    each request as its reply leaves.
+
+    `reads` and `writes` are how many have no reply yet of those that were counted here by whoever
+    answers them.
     """
 
     def __init__(self, reader: asyncio.StreamReader, writer: asyncio.StreamWriter,
-                 window: int, unread: int) -> None:
+                 window: int, unread: int,
+                 on_reply: Callable[[Request], None] = lambda request: None) -> None:
         self._reader = reader
         self._writer = writer
         self._pending: collections.deque[Request] = collections.deque()
@@ -61,6 +76,9 @@ class Peer:
         self._idle.set()
         self._written = 0
         self._ended = False
+        self._on_reply = on_reply
+        self._settled = asyncio.Event()
+        self.reads = self.writes = 0
         self.gone = False
         self.waits_for_frame = False
         writer.transport.set_write_buffer_limits(high=unread)
@@ -97,9 +115,35 @@ class Peer:
         await self._writer.drain()
         if self.gone:
             raise ConnectionResetError("the connection was ended")
+        request.since = time.monotonic()
         self._pending.append(request)
         self._idle.clear()
         self._flush()
+
+    def settle(self, request: Request) -> None:
+        """Counts a request no more among those that have no reply."""
+        if request.changes():
+            self.writes -= 1
+        else:
+            self.reads -= 1
+        self._settled.set()
+
+    async def until_read(self) -> None:
+        """Waits until no read is without its reply."""
+        while self.reads:
+            self._settled.clear()
+            await self._settled.wait()
+
+    async def until_written(self) -> None:
+        """Waits until no write is without its reply."""
+        while self.writes:
+            self._settled.clear()
+            await self._settled.wait()
+
+    def behind(self, request: Request) -> list[Request]:
+        """The requests of this client behind one, as far as their replies have not left."""
+        pending = list(self._pending)
+        return pending[pending.index(request) + 1:] if request in pending else []
 
     def answer(self, request: Request, reply: bytes) -> None:
         """Gives a request its reply, which leaves once those before it have left."""
@@ -110,6 +154,7 @@ class Peer:
         while self._pending and self._pending[0].reply is not None:
             request = self._pending.popleft()
             self._room.release()
+            self._on_reply(request)
             self._write(protocol.with_tag(bytes(4) + (request.reply or b""), request.tag))
         if not self._pending:
             self._idle.set()

@@ -53,10 +53,15 @@ class FrameFault(XqError, ValueError):
     """A message that is too long, or too short for what it has to hold."""
 
 
+def is_address(raw: bytes) -> bool:
+    """Whether the bytes are an address."""
+    return 1 <= len(raw) <= MAX_ADDRESS and _ADDRESS_BYTES.issuperset(raw)
+
+
 def address_bytes(address: str) -> bytes:
     """The bytes of an address; NotAnAddress where it is none."""
     raw = address.encode("utf-8", "surrogatepass")
-    if not 1 <= len(raw) <= MAX_ADDRESS or not _ADDRESS_BYTES.issuperset(raw):
+    if not is_address(raw):
         raise NotAnAddress(
             f"not an address: {address!r} (1 to {MAX_ADDRESS} of A-Z a-z 0-9 . _ / -)"
         )

@@ -43,3 +43,15 @@ def how_ended(status: int | None) -> str:
 def is_on_file(command: Sequence[str]) -> bool:
     """Whether the words of a server's command say that its documents live in a file."""
     return any(word == "--file" or word.startswith("--file=") for word in command)
+
+
+def in_memory(command: Sequence[str]) -> list[str]:
+    """The words of a server's command without the file that they name."""
+    words: list[str] = []
+    is_path = False
+    for word in command:
+        if is_path or word == "--file":
+            is_path = not is_path
+        elif not word.startswith("--file="):
+            words.append(word)
+    return words

@@ -6,7 +6,7 @@ import logging
 import sys
 import tempfile
 from collections.abc import AsyncIterator, Sequence
-from contextlib import asynccontextmanager
+from contextlib import AsyncExitStack, asynccontextmanager
 from dataclasses import replace
 from functools import partial
 from pathlib import Path
@@ -14,12 +14,14 @@ from pathlib import Path
 from aiohttp import web
 from aiohttp.http import HttpProcessingError
 
-from xqs import listening, mux
+from xqs import control, listening, mux, web_figures
 from xqs.bounds import bounds_of
 from xqs.cli import connection_options, server_of
 from xqs.endpoints import Command, Endpoint, UnixSocket
 from xqs.multiplexer import Multiplexer, is_on_file
 from xqs.mux_clients import Settings
+from xqs.mux_control import actions_of
+from xqs.mux_many import ManyServers
 from xqs.mux import add_limits, duration, positive, settings_of, split_command, until_signal
 from xqs.web_connections import Connections
 from xqs.web_guard import NAMES, ORIGIN, read_token
@@ -45,23 +47,23 @@ def is_own_fault(record: logging.LogRecord) -> bool:
 @asynccontextmanager
 async def multiplexed(
     place: Endpoint, settings: Settings, again: asyncio.Event
-) -> AsyncIterator[tuple[Endpoint, asyncio.Event]]:
-    """Where requests can be sent at once, and what is set when no server is left.
+) -> AsyncIterator[tuple[Endpoint, Multiplexer | ManyServers | None]]:
+    """Where requests can be sent at once, and the multiplexer, where it is one of this process.
 
     A command is started below a multiplexer, behind a socket that only its owner can open; it ends
     in order, or at once when `again` is set. Raises StartFailed.
     """
     if not isinstance(place, Command):
-        yield place, asyncio.Event()
+        yield place, None
         return
-    multiplexer = Multiplexer(place.words, settings, say)
+    multiplexer = mux.multiplexer_of(place.words, settings, say)
     await multiplexer.start()
     hurried = asyncio.create_task(multiplexer.abandon_when(again))
     with tempfile.TemporaryDirectory(prefix="xqs-web-") as folder:
         path = f"{folder}/server"
         listener = await asyncio.start_unix_server(multiplexer.serve, path)
         try:
-            yield UnixSocket(path), multiplexer.failed
+            yield UnixSocket(path), multiplexer
         except BaseException:
             await multiplexer.abandon()
             raise
@@ -76,10 +78,15 @@ async def run(where: str, place: Endpoint, settings: Settings, options: WebSetti
     Raises PlaceError, StartFailed.
     """
     again = asyncio.Event()
-    async with multiplexed(place, settings, again) as (server, failed):
+    async with multiplexed(place, settings, again) as (server, multiplexer):
+        failed = multiplexer.failed if multiplexer else asyncio.Event()
         logging.getLogger("aiohttp.server").addFilter(is_own_fault)
         application = Rest(server, options).application()
-        async with served(application, where, options) as name:
+        application.add_routes(web_figures.routes(web_figures.source_of(multiplexer, place)))
+        async with served(application, where, options) as name, AsyncExitStack() as stack:
+            if multiplexer:
+                actions = actions_of(multiplexer)
+                await stack.enter_async_context(control.listening(f"tcp:{name}", actions, say))
             say(f"listens at http://{name}/")
             await until_signal(failed, again)
     return 1 if failed.is_set() else 0
@@ -173,7 +180,7 @@ def main(words: Sequence[str] | None = None) -> int:
         seconds=0 if isinstance(place, Command) else bounds_of(given).seconds or 0,
     )
     if isinstance(place, Command) and not is_on_file(place.words):
-        say("the documents live in memory: they are lost whenever the server ends")
+        say(mux.in_memory_warning(given.servers))
     return asyncio.run(run(given.listen, place, settings_of(given), options))
 
 

@@ -18,6 +18,7 @@ STATUSES = {
     "prof:NODES": 413,
     "prof:REPLY": 413,
     "xqs:READONLY": 403,
+    "xqs:MEMORY": 413,
     "xqs:SECONDS": 504,
 }
 """The status of each code that the server refuses with, where it is not BAD."""

@@ -1,14 +1,13 @@
 """What is done to a server between two messages: snapshots of it, and another one in its place."""
 
 import asyncio
-import tempfile
 from pathlib import Path
 
 from xqs.cluster import snapshots
 from xqs.cluster.follower import Follower
 from xqs.cluster.serving import with_client
-from xqs.cluster.snapshots import Snapshot
 from xqs.errors import XqError
+from xqs.filling import Filling
 from xqs.mux_backend import Backend
 from xqs.protocol import FRAME_LIMIT
 
@@ -41,13 +40,15 @@ async def renew(follower: Follower) -> None:
 
 
 async def _copied(follower: Follower, old: Backend) -> Backend:
-    """A server in memory that has the documents of another one."""
-    with tempfile.TemporaryDirectory(prefix="xqs-node-") as room:
-        folder, state = Path(room), follower.state
-        await with_client(old, lambda it: snapshots.write(it, state, folder))
-        new = await follower.start_server()
-        snapshot = Snapshot(snapshots.path_of(folder, state.offset), state)
-        await with_client(new, lambda it: snapshots.restore(it, snapshot))
+    """A server in memory that has the documents of another one, to which nothing is written."""
+    new = await follower.start_server()
+    try:
+        filling = Filling(old.ask, new.ask)
+        await filling.copy_most()
+        await filling.finish()
+    except BaseException:
+        new.kill()
+        raise
     return new
 
 

@@ -1,0 +1,74 @@
+"""What a multiplexer that runs can be asked by its owner, and the commands that ask it."""
+
+import argparse
+import json
+import sys
+from collections.abc import Awaitable, Callable, Mapping, Sequence
+from pathlib import Path
+from typing import Protocol
+
+from xqs import control
+from xqs.control import Action, Say
+from xqs.metrics import Metrics, Report, prometheus, status_text
+from xqs.upgrading import absolute
+
+
+class Multiplexing(Protocol):
+    """A multiplexer, whatever number of servers it has."""
+
+    @property
+    def metrics(self) -> Metrics: ...
+
+    def report(self) -> Report: ...
+
+    async def upgrade(self, command: Sequence[str],
+                      say: Callable[[str], Awaitable[None]]) -> None: ...
+
+
+def figures_of(multiplexer: Multiplexing) -> str:
+    """All figures in the format of Prometheus."""
+    return prometheus(multiplexer.report(), multiplexer.metrics)
+
+
+def lines_of(multiplexer: Multiplexing) -> str:
+    """The figures in lines."""
+    return status_text(multiplexer.report(), multiplexer.metrics)
+
+
+def actions_of(multiplexer: Multiplexing) -> Mapping[str, Action]:
+    """What it can be asked."""
+
+    async def status(_: str, say: Say) -> None:
+        await say(lines_of(multiplexer))
+
+    async def metrics(_: str, say: Say) -> None:
+        await say(figures_of(multiplexer))
+
+    async def upgrade(argument: str, say: Say) -> None:
+        await multiplexer.upgrade(control.command_of(argument), say)
+
+    return {"status": status, "metrics": metrics, "upgrade": upgrade}
+
+
+def ask_upgrade(place: str, command: Sequence[str]) -> int:
+    """Has the multiplexer at a place run another command; gives the exit status."""
+    words = absolute(command, Path.cwd())
+    for line in control.ask(place, f"upgrade {json.dumps(words)}", None):
+        print(f"xqs mux: {line}", file=sys.stderr, flush=True)
+    print("xqs mux: the program is taken over", file=sys.stderr)
+    return 0
+
+
+def status_main(words: Sequence[str]) -> int:
+    """Carries out `xqs status`."""
+    parser = argparse.ArgumentParser(
+        prog="xqs status",
+        description="Says how the multiplexer does that listens at a place: its servers, clients, "
+        "lines and times.")
+    parser.add_argument("place", metavar="unix:PATH|tcp:PORT", help="where its clients connect")
+    parser.add_argument("--metrics", action="store_true",
+                        help="all figures, in the format that Prometheus reads")
+    given = parser.parse_args(words)
+    for line in control.ask(given.place, "metrics" if given.metrics else "status"):
+        print(line)
+    return 0

@@ -1,0 +1,202 @@
+"""One of several servers that carry the same writes: its process, and the line of its requests.
+
+A server carries out one request after the other, so what stands in its line before a read is what
+the read sees. A node's server and those of `xqs mux` are such ones.
+"""
+
+import asyncio
+import collections
+import dataclasses
+from collections.abc import Awaitable, Callable, Sequence
+from enum import Enum
+from typing import Protocol
+
+from xqs.mux_backend import Backend, Own, ServerEnded
+from xqs.mux_peer import Request
+from xqs.protocol import Kind, is_address
+
+HELD = 0.05
+"""A server that is at a request for so many seconds is given no read behind it."""
+IN_PIPE = 8
+"""So many requests of a line are sent ahead; the others wait here."""
+
+
+class State(Enum):
+    """What a server can be given."""
+
+    DOWN = "down"
+    """Nothing: it is not there."""
+    FILLING = "filling"
+    """Nothing: it doesn't hold all documents yet."""
+    READY = "ready"
+    """Reads, and copies of writes."""
+    LEAVING = "leaving"
+    """Writes alone: it ends once the reads that it has are answered."""
+
+
+HOLDING = (State.READY, State.LEAVING)
+"""A server in such a state holds all documents."""
+
+
+@dataclasses.dataclass(eq=False, slots=True)
+class Copy(Request):
+    """A write that another server has carried out in so many seconds; `expected` is the reply that
+    it gave."""
+
+    expected: bytes = b""
+    took: float = 0.0
+
+
+def address_of(payload: bytes) -> bytes:
+    """The address of a store or a drop; nothing where it has none."""
+    if payload[:1] == Kind.DROP:
+        address = payload[1:]
+    else:
+        address = payload[2:2 + payload[1]] if len(payload) > 1 else b""
+    return address if is_address(address) else b""
+
+
+class Watcher(Protocol):
+    """Who has to know which documents a server is told to change."""
+
+    def changed(self, address: bytes) -> None:
+        """A write to the address stands in the line from now on."""
+
+
+class Replica:
+    """A server and its line.
+
+    `on_reply` gets each reply to a client's read or write, and to a copy. `reads` counts the reads
+    of clients in its line, `fast_reads` those that were fast before, `restarts` how often another
+    process took the place of one that ended. `why` says why it is to end, where that is known
+    before. It runs `command`, which may be `is_new`: then it is compared with another server before
+    it serves; `failure` is why it could not.
+    """
+
+    def __init__(self, number: int, on_reply: Callable[["Replica", Request, bytes], None]) -> None:
+        self.number = number
+        self.state = State.DOWN
+        self.line: collections.deque[Request] = collections.deque()
+        self.line_bytes = 0
+        self.reads = self.fast_reads = 0
+        self.restarts = 0
+        self.began = self.opened = 0.0
+        self.last_used = 0
+        self.memory: int | None = None
+        self.resident = 0
+        self.why = ""
+        self.left: Request | None = None
+        self.command: Sequence[str] = ()
+        self.is_new = False
+        self.failure: Exception | None = None
+        self.watchers: list[Watcher] = []
+        self._on_reply = on_reply
+        self._slow = 0
+        self._backend: Backend | None = None
+
+    @property
+    def name(self) -> str:
+        """How messages call it."""
+        return f"server {self.number}"
+
+    @property
+    def backend(self) -> Backend:
+        """The process that runs, or ran last."""
+        assert self._backend is not None
+        return self._backend
+
+    @property
+    def runs(self) -> bool:
+        """Whether its process runs, as far as is known."""
+        return self._backend is not None and not self._backend.ended.is_set()
+
+    @property
+    def is_held(self) -> bool:
+        """Whether it is at something that takes long, or has a store to carry out that did."""
+        return bool(self._slow) or bool(
+            self.backend.in_flight) and self.backend.worked() > HELD
+
+    @property
+    def waiting(self) -> int:
+        """How many requests wait for their replies here."""
+        return len(self.line) + (len(self._backend.in_flight) if self._backend else 0)
+
+    @property
+    def frames(self) -> int:
+        """How many frames its process was sent."""
+        return self._backend.frames if self._backend else 0
+
+    async def begin(self, command: Sequence[str], seconds: float | None,
+                    memory: int | None) -> None:
+        """Starts a process, which has its store open when this returns. Raises StartFailed."""
+        begin = asyncio.get_running_loop().time()
+        self.line.clear()
+        self.line_bytes = self.reads = self.fast_reads = self.resident = self._slow = 0
+        self.why, self.left, self.memory = "", None, memory
+        self._backend = await Backend.start(command, self._take, seconds, memory)
+        self.began = asyncio.get_running_loop().time()
+        self.opened = self.began - begin
+
+    def _take(self, request: Request, reply: bytes) -> None:
+        self._slow -= isinstance(request, Copy) and request.took > HELD
+        if not isinstance(request, Own):
+            self._on_reply(self, request, reply)
+        self._pump()
+
+    def put(self, request: Request) -> None:
+        """Puts a request at the end of the line."""
+        self.line.append(request)
+        self.line_bytes += len(request.payload)
+        self._slow += isinstance(request, Copy) and request.took > HELD
+        if self.watchers and request.changes() and (address := address_of(request.payload)):
+            for watcher in self.watchers:
+                watcher.changed(address)
+        self._pump()
+
+    def _pump(self) -> None:
+        backend = self.backend
+        while self.line and len(backend.in_flight) < IN_PIPE:
+            request = self.line.popleft()
+            self.line_bytes -= len(request.payload)
+            backend.put(request)
+
+    async def ask(self, payload: bytes) -> bytes:
+        """The status and text of the reply to a request of the multiplexer. Raises ServerEnded."""
+        return await self.asked(payload).done
+
+    def of_this_process(self) -> Callable[[bytes], Awaitable[bytes]]:
+        """Asks as `ask` does, and never another process that has taken the place of this one."""
+        backend = self.backend
+
+        async def ask(payload: bytes) -> bytes:
+            if backend is not self._backend:
+                raise ServerEnded(f"{self.name} has ended")
+            return await self.ask(payload)
+
+        return ask
+
+    def asked(self, payload: bytes) -> Own:
+        """Puts a request of the multiplexer into the line. Raises ServerEnded."""
+        if not self.runs:
+            raise ServerEnded(f"{self.name} has ended")
+        request = Own(None, 0, payload)
+        self.put(request)
+        return request
+
+    def take_all(self) -> list[Request]:
+        """What has no reply of a process that has ended, in its order; nothing is left then. Those
+        that the multiplexer asked itself are told."""
+        found = [*self.backend.in_flight, *self.line]
+        self.backend.in_flight.clear()
+        self.line.clear()
+        self.line_bytes = self.reads = self.fast_reads = self._slow = 0
+        for request in found:
+            if isinstance(request, Own):
+                request.fail()
+        return found
+
+    def kill(self, why: str) -> None:
+        """Ends the process at once."""
+        self.why = self.why or why
+        if self._backend is not None:
+            self._backend.kill()

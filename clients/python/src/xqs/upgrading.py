@@ -1,0 +1,117 @@
+"""Another program in the place of the one that runs, server by server, while the others answer."""
+
+import asyncio
+import os
+import shutil
+from collections.abc import Awaitable, Callable, Sequence
+from pathlib import Path
+from typing import TYPE_CHECKING
+
+from xqs.errors import XqError
+from xqs.filling import CannotFill
+from xqs.in_use import file_of
+from xqs.protocol import Kind, Status
+from xqs.queries import q
+from xqs.replica import Replica, State
+from xqs.values import values
+
+if TYPE_CHECKING:
+    from xqs.mux_many import ManyServers
+
+DOCUMENTS = 20
+"""So many documents are read of both programs, besides what clients asked."""
+SHOWN = 60
+FIXED = (b"L", b"Qcount(collection())", b"Qfor $d in collection() return count($d//node())")
+"""What both programs are asked in any case."""
+
+
+class NotUpgraded(XqError):
+    """The program was not taken over, and why; the one before goes on."""
+
+
+class AnswersOtherwise(CannotFill):
+    """The other program gave another reply to a request of the sample."""
+
+
+def absolute(command: Sequence[str], folder: Path) -> list[str]:
+    """The words of a command as they can be run in any folder. NotUpgraded where it can't be."""
+    program = shutil.which(str(folder / command[0]) if "/" in command[0] else command[0])
+    if program is None:
+        raise NotUpgraded(f"there is no program {command[0]}")
+    words, file = list(command), file_of(command)
+    words[0] = os.path.abspath(program)
+    if file is not None:
+        whole = os.path.abspath(folder / file)
+        words = [f"--file={whole}" if it.startswith("--file=") else it for it in words]
+        words = [whole if before == "--file" else it
+                 for before, it in zip(["", *words], words, strict=False)]
+    return words
+
+
+async def check(source: Replica, other: Replica, sample: Sequence[bytes]) -> None:
+    """That two servers that hold the same documents answer a sample of requests alike.
+
+    Replies that want memory or the store are not compared. Raises AnswersOtherwise, ServerEnded.
+    """
+    listed = await source.ask(Kind.LIST.value)
+    addresses = values(listed[1:].decode()) if listed[0] == Status.DONE else []
+    asked = [*FIXED, *sample, *(b"Q" + q("doc($a)", a=str(it)).encode()
+                                for it in addresses[:DOCUMENTS])]
+    for payload in asked:
+        theirs, ours = await asyncio.gather(source.ask(payload), other.ask(payload))
+        if theirs != ours and Status.WANTING not in (theirs[0], ours[0]):
+            raise AnswersOtherwise(
+                f"it answers otherwise: {payload[:SHOWN].decode(errors='replace')!r} by "
+                f"{ours[:SHOWN].decode(errors='replace')!r}, and not by "
+                f"{theirs[:SHOWN].decode(errors='replace')!r}")
+
+
+async def upgrade(servers: "ManyServers", command: Sequence[str],
+                  say: Callable[[str], Awaitable[None]]) -> None:
+    """Has each server run another command, the first one last.
+
+    NotUpgraded where a server with it does not begin, or answers a sample of requests otherwise
+    than those that run: then all go on with the one before.
+    """
+    if servers.is_upgrading:
+        raise NotUpgraded("another program is being taken over already")
+    before, replicas = servers.command, servers.replicas
+    _check_file(before, command)
+    servers.is_upgrading = True
+    changed: list[Replica] = []
+    try:
+        while left := [it for it in replicas.all if it not in changed]:
+            replica = next((it for it in left if it is not replicas.first), left[0])
+            changed.append(replica)
+            await _change(servers, replica, command)
+            await say(f"{replica.name} runs it")
+        servers.command = list(command)
+    except NotUpgraded as error:
+        servers.note(f"the program is not taken over: {error}")
+        for replica in changed:
+            if replica.command != before:
+                replica.command, replica.is_new, replica.failure = before, False, None
+                await servers.leave(replica, "back to the program before")
+        raise
+    finally:
+        servers.is_upgrading = False
+    servers.note(f"all servers run {' '.join(command)}")
+
+
+def _check_file(before: Sequence[str], command: Sequence[str]) -> None:
+    ours, theirs = file_of(before), file_of(command)
+    if (ours and ours.resolve()) != (theirs and theirs.resolve()):
+        raise NotUpgraded(f"the documents are in {ours or 'memory'}, and the command has "
+                          f"{theirs or 'memory'}")
+
+
+async def _change(servers: "ManyServers", replica: Replica, command: Sequence[str]) -> None:
+    replica.command, replica.is_new, replica.failure = list(command), True, None
+    if not await servers.leave(replica, "another program takes its place"):
+        raise NotUpgraded("no other server holds the documents now: try again later")
+    failure: Exception | None = replica.failure
+    if failure is None and replica.state is not State.READY:
+        failure = NotUpgraded("it did not begin in time")
+        await servers.keep_anew(replica)
+    if failure is not None:
+        raise NotUpgraded(f"{replica.name}: {failure}")
