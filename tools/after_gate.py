@@ -7,7 +7,8 @@ Without names all trials are run; `--list` prints them. COMMAND starts a server 
 memory; without it that is the program which ./serve built, if it is of the sources as they are.
 With CLONE, in which `rt ci` ran, the trials that build programs of their own build them over what
 that gate proved (tools/over_gate.py). FOLDER is the corpus, which lies beside this repository. With
---long the soak lasts an hour, and a minute otherwise.
+--long the soak lasts an hour, and the trial of several servers that are killed ten minutes; a
+minute each otherwise. XQS_TRIAL_SECONDS is how long the second one lasts in any case.
 
 Nothing is installed. A trial whose needs are not there is left out, and the last lines say which
 and why. What a trial prints is shown where it fails. The status is 1 where one failed.
@@ -48,6 +49,7 @@ GROWTHS: dict[str, list[str]] = {
 }
 """The rows over which each allocation of the program is refused in turn."""
 LAST_LINES = 60
+TRIAL_SECONDS = "XQS_TRIAL_SECONDS"
 
 
 @dataclass(frozen=True)
@@ -105,6 +107,10 @@ def client_trials(given: Given) -> Iterator[Trial]:
     tests = ["python3", "-m", "unittest"]
     long = server | {"XQS_LONG": "1"}
     yield Trial("client_long", tests, wants=served, folder=CLIENT, environment=long)
+    seconds = os.environ.get(TRIAL_SECONDS, "600" if given.is_long else "60")
+    yield Trial("servers", [*tests, "tests.test_mux_servers.TrialTest"], wants=served,
+                folder=CLIENT, environment=server | {TRIAL_SECONDS: seconds})
+    yield Trial("servers_bounds", ["python3", "bench/mux.py", "--", *given.server], wants=served)
     for path in sorted((CLIENT / "with_packages").glob("test_*.py")):
         words = [*tests, "discover", "-s", "with_packages", "-p", path.name]
         yield Trial(
