@@ -1,4 +1,4 @@
-"""`xqs mux`: one server for many clients, behind a Unix socket or a port of loopback."""
+"""`xqs mux`: one server or several for many clients, behind a Unix socket or a port of loopback."""
 
 import argparse
 import asyncio
