@@ -7,10 +7,13 @@ from dataclasses import dataclass
 from pathlib import Path
 from typing import TYPE_CHECKING
 
-from xqs.cluster import snapshots, sums
+from xqs.cluster import identity, snapshots, sums
 from xqs.cluster.agreement import Agreement, Differs, Report
 from xqs.cluster.batches import Batch, EntryKind, NoBatch, changes, decode
-from xqs.cluster.log import Away, CannotFollow, Log
+from xqs.cluster.feed import Feed, digest_of
+from xqs.cluster.identity import PATIENCE
+from xqs.cluster.limits import within
+from xqs.cluster.log import CannotFollow, Log
 from xqs.cluster.outbox import Outbox
 from xqs.cluster.serving import Asked, ServerEnded, ask, with_client
 from xqs.cluster.snapshots import Snapshot
@@ -27,7 +30,7 @@ if TYPE_CHECKING:
     from xqs.cluster.reads import Reads
 
 AGAIN = 0.2
-"""Seconds before the log is asked again where it could not be reached."""
+"""Seconds between two looks whether another server has taken the place of one that ended."""
 START_DELAYS = (0.0, 0.1, 0.5, 1.0, 2.0)
 """Seconds before each try to start the server again; after the last the follower gives up."""
 VAIN_TRIES = 3
@@ -78,6 +81,7 @@ class Follower:
         self.waits_since: float | None = None
         self.retired: Backend | None = None
         self._backend: Backend | None = None
+        self._feed = Feed(given.name, log, say)
         self._ends: dict[int, int] = {}
 
     @property
@@ -240,19 +244,9 @@ class Follower:
             request.peer.answer(request, reply)
 
     async def _follow(self) -> None:
-        """Takes each message of the log as it comes."""
-        while True:
-            try:
-                await self._check_end()
-                await self._take_all()
-            except Away:
-                self.waits_since = None
-                await asyncio.sleep(AGAIN)
-
-    async def _take_all(self) -> None:
-        """Takes messages until the connection ends. Raises Away then."""
-        async with aclosing(self._log.messages(self.state.offset)) as messages:
-            self._wait_begins()
+        """Takes each message of the log as it comes. Raises CannotFollow, Halted, Differs, Ended."""
+        self._wait_begins()
+        async with aclosing(self._feed.messages(self.state)) as messages:
             async for offset, message in messages:
                 with self._working():
                     async with self.between:
@@ -273,17 +267,8 @@ class Follower:
             self._outbox.stir()
             self._wait_begins()
 
-    async def _check_end(self) -> None:
-        """That the log goes as far as this follower has come; else it is another one."""
-        if self.state.offset >= 0:
-            end = await self._log.end_offset()
-            if end <= self.state.offset:
-                raise CannotFollow(f"the log {self._log.name} ends at offset {end}, and the "
-                                   f"documents are of {self.state}: it is not the log that they "
-                                   "followed, or it was made anew")
-
     async def _check_gap(self, offset: int) -> None:
-        first = await self._log.first_offset()
+        first, _ = await within(PATIENCE, self._log.first_message())
         if first > self.state.offset + 1:
             raise CannotFollow(
                 f"the log {self._log.name} begins at offset {first}, and the documents are of "
@@ -301,14 +286,18 @@ class Follower:
             batch = decode(message)
         except NoBatch as error:
             self._say(f"{self.name}: {error}, at offset {offset}: it is left out")
-            self.state.offset = offset
+            self._note_taken(offset, message)
             return
         passed("decoded")
+        self.state.identity = self.state.identity or identity.of_batch(batch)
         is_end = await self._take_batch(batch)
-        self.state.offset = offset
+        self._note_taken(offset, message)
         passed("taken")
         if is_end:
             raise Ended
+
+    def _note_taken(self, offset: int, message: bytes) -> None:
+        self.state.offset, self.state.digest = offset, digest_of(message)
 
     async def _take_batch(self, batch: Batch) -> bool:
         """Carries out the entries that were not seen; whether they end with an end."""

@@ -9,6 +9,7 @@ from dataclasses import dataclass
 from functools import partial
 from pathlib import Path
 
+from xqs.cluster import identity
 from xqs.cluster.agreement import Differs
 from xqs.cluster.batches import EntryKind
 from xqs.cluster.follower import Ended, Follower, Given
@@ -22,10 +23,8 @@ from xqs.mux_clients import Clients, Settings
 from xqs.mux_peer import Peer, Request
 from xqs.waiting import cancelled
 
-IDLE = 4.0
+IDLE = 3.0
 """Seconds without a message of the log after which a mark is written, to see that it comes."""
-SILENT = 12.0
-"""Seconds without a message, one's own mark too, after which another broker is tried."""
 LOOK = 0.5
 """Seconds between two looks at what is due."""
 READS_OF_ONE = 16
@@ -95,6 +94,8 @@ class Node:
         """
         await asyncio.gather(*(it.begin() for it in self.followers))
         self._snapshot_place = self.followers[0].state.place
+        if not all(it.state.identity for it in self.followers):
+            self.outbox.post(identity.new_entry())
         work = [self.outbox.run(), self._watch_silence(), self._watch_due(),
                 self._clients.watch_unread()]
         self._tasks = [asyncio.create_task(it) for it in work]
@@ -258,22 +259,17 @@ class Node:
             place - self._snapshot_place >= self._options.every and self._follows())
 
     async def _watch_silence(self) -> None:
-        """Writes a mark where nothing comes, and tries another broker where that does not come."""
+        """Writes a mark where nothing comes: followers ask anew where that does not come either."""
+        loop = asyncio.get_running_loop()
+        marked = 0.0
         while True:
             await asyncio.sleep(LOOK)
-            now = asyncio.get_running_loop().time()
+            now = loop.time()
             waited = [now - it.waits_since for it in self.followers if it.waits_since is not None]
-            if not self._log.is_up or not waited or max(waited) < IDLE:
-                continue
-            if max(waited) >= SILENT:
-                self._log.drop(f"nothing came for {SILENT:g} seconds")
-                self._forget_waits()
-            elif not len(self.outbox):
+            if (self._log.is_up and waited and max(waited) >= IDLE and now - marked >= IDLE
+                    and not len(self.outbox)):
                 self.outbox.mark()
-
-    def _forget_waits(self) -> None:
-        for follower in self.followers:
-            follower.waits_since = None
+                marked = now
 
     async def stop(self) -> None:
         """Answers the frames that were read, ends the clients and then the servers in order."""

@@ -5,6 +5,7 @@ import collections
 import time
 
 from xqs.cluster.batches import MARK, Batch, encode, fitting
+from xqs.cluster.limits import NoAnswer, within
 from xqs.cluster.log import Away, Log
 from xqs.cluster.steps import passed
 from xqs.errors import XqError
@@ -15,8 +16,10 @@ HELD_BYTES = 64 << 20
 """So many bytes of entries are on their way at once; clients with more of them wait."""
 SWEEP = 0.1
 """Seconds between two looks at what has waited too long."""
-CONFIRMATION = 10.0
+CONFIRMATION = 6.0
 """Seconds for which a confirmation is awaited before another broker is tried."""
+AGAIN = 0.5
+"""Seconds before a message is sent again that the log did not take."""
 
 
 class Unknown(XqError):
@@ -151,17 +154,22 @@ class Outbox:
         return True
 
     async def _send(self, batch: Batch) -> None:
-        """Sends a message; where that fails, it is sent again when the log is back."""
+        """Sends a message; where that fails, it is sent again when the log takes messages."""
         try:
             passed("published")
-            await asyncio.wait_for(self._log.publish(encode(batch)), CONFIRMATION)
+            await within(CONFIRMATION, self._log.publish(encode(batch)))
             passed("confirmed")
+        except NoAnswer:
+            self._log.drop_writing(f"no confirmation for {CONFIRMATION:g} seconds")
         except Away:
-            pass
-        except TimeoutError:
-            self._log.drop(f"no confirmation for {CONFIRMATION:g} seconds")
+            asyncio.get_running_loop().call_later(AGAIN, self._send_again_if_up)
         finally:
             self._free.release()
+
+    def _send_again_if_up(self) -> None:
+        """The log refused a message, and may still be there: nothing else sends it again then."""
+        if self._log.is_up:
+            self.send_again()
 
     def stir(self) -> None:
         """Something of the log was carried out: the wait for what is behind it begins anew."""
