@@ -1,11 +1,14 @@
 """A node follows again, whatever becomes of what it waits for, and says so."""
 
 import asyncio
+import hashlib
+import json
 import unittest
+from pathlib import Path
 from unittest import mock
 
 from tests.local_nodes import COUNT_UP, NodesTest
-from xqs.cluster import identity
+from xqs.cluster import identity, snapshots
 from xqs.cluster.batches import decode
 from xqs.cluster.limits import NoAnswer, Pauses, within
 from xqs.cluster.log import Away
@@ -173,24 +176,23 @@ class Identity(NodesTest):
 
     async def test_a_snapshot_of_before_identities_goes_on(self) -> None:
         await self.counted("a", 5)
-        with mock.patch("xqs.cluster.follower.snapshots.newest") as newest:
-            from xqs.cluster import snapshots
-            newest.side_effect = self.without_identity(snapshots.judge)
-            again = await self.begun("a")
-        self.assertEqual(await again.node.followers[0].backend.ended.wait()
-                         if again.node.failed.is_set() else None, None)
+        for path in (self.folder / "snapshots-a").glob("*.snapshot"):
+            self.leave_out_identity(path)
+        again = await self.begun("a")
+        self.assertTrue(again.has_said("1 documents of place 5"))
         self.assertIn('"5"', (await self.documents(again))["total"])
 
     @staticmethod
-    def without_identity(judge):  # type: ignore[no-untyped-def]
-        """The newest snapshot, as a version without identities has it."""
-
-        def newest(folder, say):  # type: ignore[no-untyped-def]
-            found = judge(max(folder.glob("*.snapshot")))
-            found.state.identity = found.state.digest = ""
-            return found
-
-        return newest
+    def leave_out_identity(path: Path) -> None:
+        """Makes a snapshot one of a version without identities."""
+        with open(path, "rb") as file:
+            fields = json.loads(snapshots.read_state(file).to_json())
+            rest = file.read()
+        for name in ("identity", "digest", "skips"):
+            del fields[name]
+        text = json.dumps(fields).encode()
+        head = f"state {len(text)} {hashlib.sha256(text).hexdigest()}\n".encode()
+        path.write_bytes(snapshots.FORM + head + text + b"\n" + rest)
 
 
 if __name__ == "__main__":

@@ -12,7 +12,7 @@ from tests.support import FolderTest, ServerTest, file_server, store_part
 from xqs import Client, connect
 from xqs.backup import restore_main
 from xqs.cluster import addresses, batches, program, snapshots, sums
-from xqs.cluster.agreement import EVERY, Agreement, Differs, Report
+from xqs.cluster.agreement import EVERY, Agreement, Differs, Report, Tied
 from xqs.cluster.batches import MAX_BYTES, MAX_ENTRIES, Batch, NoBatch
 from xqs.cluster.seen import Seen
 from xqs.cluster.snapshots import NoSnapshot
@@ -140,9 +140,10 @@ class Agreeing(unittest.TestCase):
         self.own = Agreement("a", "p")
         self.assertIsNotNone(self.own.reached(EVERY, "1" * 64))
 
-    def hear(self, node: str, total: str, program: str = "p", place: int = EVERY) -> str:
+    def hear(self, node: str, total: str, program: str = "p", place: int = EVERY,
+             skips: tuple[int, ...] = ()) -> str:
         """What is said of another node's report."""
-        return self.own.hear(Report(node, place, total * 64, program))
+        return self.own.hear(Report(node, place, total * 64, program, skips))
 
     def test_nodes_that_agree_say_nothing(self) -> None:
         self.assertEqual([self.hear(node, "1") for node in "abc"], ["", "", ""])
@@ -161,13 +162,54 @@ class Agreeing(unittest.TestCase):
         self.assertIn("node a (program p) has the sum 1111", str(raised.exception))
         self.assertIn("node b (program p) has the sum 2222", str(raised.exception))
 
-    def test_of_two_that_differ_both_stop_at_the_next_report(self) -> None:
-        self.hear("b", "2")
-        with self.assertRaises(Differs):
-            self.own.reached(2 * EVERY, "3" * 64)
+    def test_a_node_has_one_vote_however_many_servers_report(self) -> None:
+        """One wrong node of three servers stops no right one."""
+        for _ in range(3):
+            self.hear("wrong", "2")
+        self.hear("b", "1")
+        self.own.reached(2 * EVERY, "3" * 64)
 
-    def test_another_program_differs(self) -> None:
-        self.assertIn("program q", self.hear("b", "1", "q"))
+    def test_of_two_that_differ_both_halt_at_the_next_report_and_say_both(self) -> None:
+        self.hear("b", "2")
+        with self.assertRaises(Tied) as raised:
+            self.own.reached(2 * EVERY, "3" * 64)
+        self.assertIn("node a (program p) has the sum 1111", str(raised.exception))
+        self.assertIn("node b (program p) has the sum 2222", str(raised.exception))
+        self.assertEqual(self.own.tied_at, EVERY)
+
+    def test_a_third_one_settles_who_of_two_is_right(self) -> None:
+        self.hear("b", "2")
+        with self.assertRaises(Tied):
+            self.own.reached(2 * EVERY, "3" * 64)
+        self.assertTrue(self.own.is_tied(EVERY))
+        self.hear("c", "1")
+        self.assertFalse(self.own.is_tied(EVERY))
+        other = Agreement("b", "p")
+        other.reached(EVERY, "2" * 64)
+        other.hear(Report("a", EVERY, "1" * 64, "p"))
+        with self.assertRaises(Differs):
+            other.hear(Report("c", EVERY, "1" * 64, "p"))
+
+    def test_a_majority_of_five_goes_on(self) -> None:
+        for node, total in (("b", "2"), ("c", "1"), ("d", "2"), ("e", "1")):
+            self.hear(node, total)
+        self.own.reached(2 * EVERY, "3" * 64)
+
+    def test_another_program_with_the_same_sums_is_a_warning_that_is_said_once(self) -> None:
+        self.assertIn("node b runs the program q, and this one p: their sums are alike so far",
+                      self.hear("b", "1", "q"))
+        self.assertEqual(self.hear("b", "1", "q"), "")
+        self.hear("c", "1", "q")
+        self.own.reached(2 * EVERY, "2" * 64)
+
+    def test_another_server_of_the_same_node_is_told_too(self) -> None:
+        self.assertIn("node a (program p) has the sum 2222", self.hear("a", "2"))
+        with self.assertRaises(Differs):
+            self.hear("b", "2")
+
+    def test_reports_with_other_skips_are_not_compared(self) -> None:
+        self.assertEqual([self.hear(node, "2", skips=(7,)) for node in "bcd"], ["", "", ""])
+        self.own.reached(2 * EVERY, "2" * 64)
 
     def test_reports_of_places_that_are_not_known_are_left_out(self) -> None:
         self.assertEqual(self.hear("b", "9", place=5 * EVERY), "")

@@ -1,21 +1,24 @@
 """One server that carries out the log: where it begins, each message, where it stops."""
 
 import asyncio
-from collections.abc import Callable, Iterator, Sequence
-from contextlib import aclosing, contextmanager
+from collections.abc import Callable, Coroutine, Iterator, Sequence
+from contextlib import aclosing, contextmanager, suppress
 from dataclasses import dataclass
 from pathlib import Path
 from typing import TYPE_CHECKING
 
-from xqs.cluster import identity, snapshots, sums
-from xqs.cluster.agreement import Agreement, Differs, Report
+from xqs.bounds import shown_size
+from xqs.cluster import aside, identity, snapshots, sums
+from xqs.cluster.agreement import Agreement, Differs, Report, Tied
+from xqs.cluster.aside import SKIPPED, skipped_place
 from xqs.cluster.batches import Batch, EntryKind, NoBatch, changes, decode
 from xqs.cluster.feed import Feed, digest_of
 from xqs.cluster.identity import PATIENCE
 from xqs.cluster.limits import within
 from xqs.cluster.log import CannotFollow, Log
 from xqs.cluster.outbox import Outbox
-from xqs.cluster.serving import Asked, ServerEnded, ask, with_client
+from xqs.cluster.names import Names
+from xqs.cluster.serving import Asked, ServerEnded, ask, give, with_client
 from xqs.cluster.snapshots import Snapshot
 from xqs.cluster.state import State
 from xqs.cluster.steps import passed
@@ -41,20 +44,26 @@ class Halted(XqError):
     """The server can't carry out what comes next in the log, and has carried out all before it."""
 
 
+class GoBack(Exception):
+    """The server has carried out an entry that all nodes are to skip."""
+
+
 class Ended(Exception):
     """The log says that all nodes end here."""
 
 
 @dataclass(frozen=True)
 class Given:
-    """What a follower is given: its name, its server's command, the program that this runs, and
-    where its documents and snapshots are."""
+    """What a follower is given: its name and that of its node, its server's command, the program
+    that this runs, where its documents and snapshots are, and the memory that its server may have."""
 
     name: str
+    node: str
     command: Sequence[str]
     program: str
     file: StoreFile | None
     snapshots: Path | None
+    memory: int | None = None
 
 
 class Follower:
@@ -64,6 +73,10 @@ class Follower:
     of `state`. `reading` has the reads of clients that the server was sent, `waits_since` the time
     at which the wait for the next message began. While `is_reporting` it reports its sums.
     `retired` is a server that ends because another one is to take its place.
+
+    `carried` is the place of the last entry that the server has answered, `line` that of the last
+    one in its line, and `promised` the line at which the last read was sent that it has not
+    answered yet. A server that halted and `may_return` waits for what lets it go on.
     """
 
     def __init__(self, given: Given, log: Log, outbox: Outbox, reads: "Reads",
@@ -77,9 +90,15 @@ class Follower:
         self.between = asyncio.Lock()
         self.reading: set[Request] = set()
         self.halted = ""
+        self.may_return = False
         self.is_ready = self.is_ended = self.is_done = self.is_reporting = False
         self.waits_since: float | None = None
         self.retired: Backend | None = None
+        self.carried = self.line = self.promised = 0
+        self.skips: set[int] = set()
+        self.names: Names | None = None
+        self._tied_at = 0
+        self._aside: dict[int, str] = {}
         self._backend: Backend | None = None
         self._feed = Feed(given.name, log, say)
         self._ends: dict[int, int] = {}
@@ -102,6 +121,7 @@ class Follower:
         """
         file = self.given.file
         state = await asyncio.to_thread(file.begin) if file else None
+        self.promised = 0
         snapshot = None if state else await self._newest()
         self._backend = await self.start_server()
         try:
@@ -115,13 +135,14 @@ class Follower:
         except BaseException:
             self.backend.kill()
             raise
-        self.agreement = Agreement(self.name, self.given.program, self.state.reports)
+        self.agreement = Agreement(self.given.node, self.given.program, self.state.reports)
+        self.carried = self.line = self.state.place
         self.is_ready = True
         self._reads.changed()
 
     async def start_server(self) -> Backend:
         """Another process of this server's command. Raises StartFailed."""
-        return await Backend.start(self.given.command, self._on_reply, None)
+        return await Backend.start(self.given.command, self._on_reply, None, self.given.memory)
 
     def go_on_with(self, backend: Backend) -> None:
         """Puts a process with the same documents into the place of the one that was there."""
@@ -134,7 +155,13 @@ class Follower:
 
     async def _newest(self) -> Snapshot | None:
         folder = self.given.snapshots
-        return await asyncio.to_thread(snapshots.newest, folder, self._say) if folder else None
+        if folder is None:
+            return None
+        return await asyncio.to_thread(snapshots.newest, folder, self._say, self._fits)
+
+    def _fits(self, state: State) -> bool:
+        """Whether a state has skipped all places up to it that are to be skipped."""
+        return all(it > state.place or it in state.skips for it in self.skips)
 
     def _checked(self, state: State) -> State:
         """A state to begin from. Another program may go on from there, where all nodes change."""
@@ -158,11 +185,15 @@ class Follower:
                 await asyncio.wait((following, ended), return_when=asyncio.FIRST_COMPLETED)
                 if following.done():
                     following.result()
-            except (Halted, CannotFollow) as error:
-                self._halt(str(error))
+            except (Halted, Tied, CannotFollow) as error:
+                self._halt(error)
             except Differs as error:
                 self.halted = str(error)
                 raise
+            except GoBack as error:
+                self._say(f"{self.name}: {error}")
+                self.backend.kill()
+                await self.backend.ended.wait()
             except ServerEnded:
                 pass
             finally:
@@ -185,19 +216,92 @@ class Follower:
                 return
             await asyncio.sleep(AGAIN)
 
-    async def rest(self) -> None:
-        """Waits until the server ends that no longer follows the log; then nothing is left to
-        answer reads with."""
+    async def rest(self) -> bool:
+        """Waits until the server that halted can go on; False once it has ended, and can't."""
+        while True:
+            ways = [asyncio.create_task(it) for it in self._ways_back()]
+            ended = asyncio.create_task(self.backend.ended.wait())
+            try:
+                await asyncio.wait((*ways, ended), return_when=asyncio.FIRST_COMPLETED)
+                back = [it.result() for it in ways if it.done()]
+            finally:
+                await cancelled(*ways, ended)
+            if back or self.may_return:
+                await self._go_on(back[0] if back else "its server has ended")
+                return True
+            self.is_ready, self.is_ended = False, True
+            self._settle_in_flight()
+            self._reads.changed()
+            return False
+
+    def _ways_back(self) -> Iterator[Coroutine[None, None, str]]:
+        """What may have the server go on; each says what it was."""
+        if self.may_return:
+            yield self._later_snapshot()
+            yield self._skipped()
+        if self._tied_at:
+            yield self._settled(self._tied_at)
+
+    async def _later_snapshot(self) -> str:
+        found = await aside.later_snapshot(self.given.snapshots, self.state.offset, self._fits,
+                                           self._say)
+        self.backend.kill()
         await self.backend.ended.wait()
-        self.is_ready, self.is_ended = False, True
-        self._settle_in_flight()
+        return f"there is a later snapshot, {found.path}"
+
+    async def _skipped(self) -> str:
+        place = self.state.place + 1
+        await aside.entry_ahead(self._log, self.state.offset,
+                                lambda entry: aside.skipped_place(entry) == place)
+        self.skips.add(place)
+        return f"place {place:,} is skipped"
+
+    async def _settled(self, place: int) -> str:
+
+        def is_settled(entry: bytes) -> bool:
+            if report := Report.of(entry):
+                with suppress(Tied):
+                    self.agreement.hear(report)
+            return not self.agreement.is_tied(place)
+
+        await aside.entry_ahead(self._log, self.state.offset, is_settled)
+        return f"most nodes have its sum at place {place:,}"
+
+    async def _go_on(self, why: str) -> None:
+        """Follows the log again, with the server that runs or another one."""
+        async with self.between:
+            if self.backend.ended.is_set():
+                await self._begin_again()
+            self._say(f"{self.name} follows the log again, from {self.state}: {why}")
+            self.halted, self.may_return, self._tied_at = "", False, 0
         self._reads.changed()
 
-    def _halt(self, why: str) -> None:
-        self.halted = why
-        self._say(f"{self.name} no longer follows the log, at {self.state}: {why}; reads are "
-                  "answered with the documents of that place until the node is started again "
-                  "from a snapshot")
+    def end_held(self, seconds: float, entry_seconds: float) -> None:
+        """Ends a server that a read holds for longer than the seconds, or an entry for longer than
+        its own; the next server halts before that entry."""
+        if self._backend is None or self.backend.ended.is_set() or not self.backend.in_flight:
+            return
+        front, worked = self.backend.in_flight[0], self.backend.worked()
+        if isinstance(front, Asked) and worked > entry_seconds:
+            self._aside[front.place] = (f"the entry of place {front.place:,} held its server for "
+                                        f"over {entry_seconds:g} seconds")
+        elif not (front in self.reading and worked > seconds):
+            return
+        self.backend.overdue = front
+        self.backend.kill()
+
+    def _halt(self, error: XqError) -> None:
+        """Notes why the server no longer follows the log, and says what may have it go on."""
+        self.halted = why = str(error)
+        self.may_return = isinstance(error, Halted)
+        self._tied_at = self.agreement.tied_at if isinstance(error, Tied) else 0
+        place = self.state.place + 1
+        hint = ""
+        if self.may_return:
+            hint = (f"; it goes on from a later snapshot of another node, once that is in its "
+                    f"folder, or where all nodes skip the entry (xqs node --skip {place})")
+        self._say(f"{self.name} steps aside, and no longer follows the log, at {self.state}: {why}; "
+                  f"reads are answered with the documents of that place{hint}")
         self._reads.changed()
 
     async def _begin_again(self) -> None:
@@ -221,6 +325,7 @@ class Follower:
         clients' reads go back to whoever sent them."""
         in_flight = list(self.backend.in_flight)
         self.backend.in_flight.clear()
+        self.promised = 0
         if in_flight and isinstance(in_flight[0], Asked):
             self._ends[self.state.place] = self._ends.get(self.state.place, 0) + 1
         for number, request in enumerate(in_flight):
@@ -230,18 +335,21 @@ class Follower:
             elif request in self.reading:
                 self.reading.discard(request)
                 is_blamed = number == 0 and not self.backend.is_worth_a_repetition(request)
-                self._reads.returned(request, is_blamed)
+                is_overdue = self.backend.overdue is request
+                self._reads.returned(request, is_blamed, is_overdue)
 
     def _on_reply(self, request: Request, reply: bytes) -> None:
         if isinstance(request, Asked):
+            self.line = self.carried = (
+                request.place if reply[0] != Status.WANTING else self.carried)
             if not request.done.done():
                 request.done.set_result(reply)
             return
         if request in self.reading:
             self.reading.discard(request)
+            self._reads.raise_floor(self.carried)
             self._reads.changed()
-        if request.peer and not request.peer.gone:
-            request.peer.answer(request, reply)
+        give(request, reply)
 
     async def _follow(self) -> None:
         """Takes each message of the log as it comes. Raises CannotFollow, Halted, Differs, Ended."""
@@ -306,7 +414,7 @@ class Follower:
             self._outbox.send_again()
         is_end = False
         for number, entry in self.state.seen.new_entries(batch):
-            reply = await self._carry_out(entry)
+            reply = await self._carry_out(entry, batch.sender)
             self.state.seen.take(batch.sender, number)
             passed("noted")
             self._reads.changed()
@@ -314,38 +422,79 @@ class Follower:
                 self._reads.raise_floor(self.state.place)
                 self._outbox.came_back(number, reply)
                 passed("answered")
+            # (what is raised of it is raised behind the entry, which is not to be taken twice)
+            if changes(entry):
+                self._report()
             is_end = entry[:1] == EntryKind.END
         return is_end
 
-    async def _carry_out(self, entry: bytes) -> bytes:
+    async def _carry_out(self, entry: bytes, sender: str) -> bytes:
         """Carries out an entry; the status and text of its reply, none of what is no change."""
         if not changes(entry):
-            self._hear(entry)
+            self._hear(entry, sender)
             return b""
+        place = self.state.place + 1
+        if place in self.skips:
+            reply = SKIPPED
+            self.state.skips += (place,)
+            self.line = self.carried = place
+        else:
+            reply = await self._answered(entry, place)
+        self.state.place = place
+        self.state.total = sums.after(self.state.total, entry, reply)
+        return reply
+
+    async def _answered(self, entry: bytes, place: int) -> bytes:
+        """The server's reply to a store or a drop. Raises Halted, ServerEnded."""
+        if why := self._aside.get(place):
+            raise Halted(why)
         if (ends := self._ends.get(self.state.place, 0)) >= VAIN_TRIES:
             raise Halted(f"{ends} servers in turn ended at the next entry")
         passed("sent")
-        reply = await ask(self.backend, entry)
+        self.line = place
+        reply = await ask(self.backend, entry, place)
         passed("replied")
         if reply[0] == Status.WANTING:
-            raise Halted(f"the next entry was answered with {reply[1:].decode()}")
-        self.state.place += 1
-        self.state.total = sums.after(self.state.total, entry, reply)
-        if report := self.agreement.reached(self.state.place, self.state.total):
-            self.state.reports = self.agreement.sums
-            if self.is_reporting:
-                self._outbox.post(report.entry())
+            bound = self.given.memory
+            raise Halted(f"the next entry was answered with {reply[1:].decode()}"
+                         + (f", of which this server may have {shown_size(bound)}"
+                            if bound and reply[1:] == b"memory" else ""))
         return reply
 
-    def _hear(self, entry: bytes) -> None:
-        """Takes a report of another node, or an end. Raises Differs, CannotFollow."""
-        program = entry[1:].decode(errors="replace")
-        if entry[:1] == EntryKind.END and program != self.given.program:
+    def _report(self) -> None:
+        """Reports the sum, where that is due: while this node catches up only what is disputed."""
+        place, state = self.state.place, self.state
+        report = self.agreement.reached(place, state.total, state.skips)
+        if report:
+            self.state.reports = self.agreement.sums
+            if self.is_reporting or self.agreement.is_disputed(place):
+                self._outbox.post(report.entry())
+
+    def _hear(self, entry: bytes, sender: str) -> None:
+        """Takes an entry that changes no document. Raises Differs, Tied, CannotFollow, GoBack."""
+        kind = entry[:1]
+        if kind == EntryKind.END:
+            self._check_program(entry[1:].decode(errors="replace"))
+        elif kind == EntryKind.SKIP:
+            self._hear_skip(skipped_place(entry))
+        elif kind == EntryKind.HELLO and self.names:
+            self.names.hear_hello(sender, self.state.seen)
+        elif kind == EntryKind.TAKEN and self.names:
+            self.names.hear_taken(entry[1:].decode(errors="replace"))
+        elif (report := Report.of(entry)) and (said := self.agreement.hear(report)):
+            self._say(said)
+
+    def _check_program(self, program: str) -> None:
+        if program != self.given.program:
             raise CannotFollow(f"all nodes ended here that ran the program {program}, and this is "
                                f"{self.given.program}: begin from a snapshot of this place")
-        report = Report.of(entry) if entry[:1] == EntryKind.REPORT else None
-        if report and (said := self.agreement.hear(report)):
-            self._say(said)
+
+    def _hear_skip(self, place: int | None) -> None:
+        if place is None or place > self.state.place or place in self.state.skips:
+            return
+        self.skips.add(place)
+        raise GoBack(f"place {place:,} is skipped by all nodes, and was carried out here: the "
+                     "documents begin again from before it")
 
     async def end(self) -> None:
         """Ends the server in order, and notes beside its file where it stands."""

@@ -2,18 +2,21 @@
 
 import asyncio
 import contextlib
+import hashlib
 import os
+import time
 import weakref
 from collections.abc import Callable, Sequence
 from dataclasses import dataclass
 from functools import partial
 from pathlib import Path
 
-from xqs.cluster import identity
+from xqs.cluster import aside, identity, trials
 from xqs.cluster.agreement import Differs
 from xqs.cluster.batches import EntryKind
 from xqs.cluster.follower import Ended, Follower, Given
 from xqs.cluster.log import Log
+from xqs.cluster.names import Names
 from xqs.cluster.outbox import Outbox, Pending, Unknown
 from xqs.cluster.reads import WANTING_STORE, Reads
 from xqs.cluster.store_file import StoreFile
@@ -27,6 +30,17 @@ IDLE = 3.0
 """Seconds without a message of the log after which a mark is written, to see that it comes."""
 LOOK = 0.5
 """Seconds between two looks at what is due."""
+HELD = 0.25
+"""Seconds between two looks whether a request holds a server for too long."""
+ENTRY_TIMES = 5
+"""So many times as long as a client's request an entry of the log may take: a slower machine has
+to carry out what another one tried."""
+CLAIM = 0.5
+"""Seconds in which a node of the same name may refuse this one, before it takes clients."""
+COPIES = 30.0
+"""Seconds between two looks at how many brokers have a copy, while some have none."""
+ENDING, DRAINING = 4.5, 2.0
+"""Seconds for an end in order, and of these for what clients wait for."""
 READS_OF_ONE = 16
 """So many reads of one server wait for their replies where there is one; else one of each, so that
 a query that never ends holds no other."""
@@ -36,7 +50,8 @@ a query that never ends holds no other."""
 class Options:
     """What a node is given: its name, the command of its servers and the program that it runs, how
     many there are, their files, the folder of snapshots and the places between two of them, how
-    long a write waits for the log, and whether reads see all that the log held."""
+    long a request may hold a server and a write waits for the log, whether reads see all that the
+    log held, and the memory that each server may have."""
 
     name: str
     command: Sequence[str]
@@ -47,6 +62,7 @@ class Options:
     every: int = 10_000
     seconds: float = 30.0
     is_fresh: bool = False
+    memory: int | None = None
 
 
 class Node:
@@ -70,7 +86,12 @@ class Node:
         self._writes: weakref.WeakKeyDictionary[Peer, Pending] = weakref.WeakKeyDictionary()
         self._tasks: list[asyncio.Task[None]] = []
         self._snapshot_place = 0
-        self._is_caught_up = False
+        self._shift = int.from_bytes(hashlib.sha256(options.name.encode()).digest()[:8]) % (
+            options.every)
+        self.names = Names(self.outbox, self._refuse_name)
+        self.copies: dict[str, bool | None] = {}
+        self.snapshot_time: float | None = None
+        self.is_caught_up = False
         self.failed = asyncio.Event()
         self.status = 0
 
@@ -83,7 +104,8 @@ class Node:
             path = options.file.with_name(options.file.name + end)
             command += ["--file", str(path)]
             file = StoreFile(path.absolute())
-        given = Given(name, command, options.program, file, options.snapshots)
+        given = Given(name, options.name, command, options.program, file, options.snapshots,
+                      options.memory)
         return Follower(given, self._log, self.outbox, self.reads, self._say)
 
     async def start(self) -> None:
@@ -96,8 +118,11 @@ class Node:
         self._snapshot_place = self.followers[0].state.place
         if not all(it.state.identity for it in self.followers):
             self.outbox.post(identity.new_entry())
-        work = [self.outbox.run(), self._watch_silence(), self._watch_due(),
-                self._clients.watch_unread()]
+        for follower in self.followers:
+            follower.names = self.names
+        self.names.greet()
+        work = [self.outbox.run(), self._watch_silence(), self._watch_due(), self._watch_held(),
+                self._watch_copies(), self._clients.watch_unread()]
         self._tasks = [asyncio.create_task(it) for it in work]
         self._tasks += [asyncio.create_task(self._run(it)) for it in self.followers]
         for task in self._tasks:
@@ -118,12 +143,20 @@ class Node:
             failed.cancel()
             if mark.done.done() and not mark.done.exception():
                 self._note_caught_up()
+                with contextlib.suppress(TimeoutError):
+                    await asyncio.wait_for(self.failed.wait(), CLAIM)
+                return
+            if not self._follows():
                 return
             if not self.failed.is_set():
                 self._say("waits for the log")
 
+    def _refuse_name(self) -> None:
+        self._fail(f"another node of the name {self._options.name} follows this log: give each a "
+                   "name of its own (--name)", 1)
+
     def _note_caught_up(self) -> None:
-        self._is_caught_up = True
+        self.is_caught_up = True
         for follower in self.followers:
             follower.is_reporting = True
 
@@ -131,24 +164,35 @@ class Node:
         """Has a server follow the log; the node ends where it must not go on."""
         try:
             await follower.run()
-            self._note_halt()
-            await follower.rest()
+            self._note_halt(follower)
+            while await follower.rest():
+                self._note_caught_up()
+                await follower.run()
+                self._note_halt(follower)
         except Ended:
             await self._end_for_all(follower)
         except Differs as error:
-            self._fail(f"this node differs from others, and stops: {error}", 1)
+            self._end_one(follower, f"differs from others, and stops: {error}")
         except (XqError, OSError, ValueError) as error:
-            follower.is_ready, follower.is_ended = False, True
-            self._say(f"{follower.name}: {error}")
+            self._end_one(follower, str(error))
         if all(it.is_ended for it in self.followers):
             self._fail("no server is left", 1)
         self.reads.changed()
 
-    def _note_halt(self) -> None:
+    def _end_one(self, follower: Follower, why: str) -> None:
+        """Ends a server that must not go on; the others do."""
+        follower.is_ready, follower.is_ended = False, True
+        follower.abandon()
+        if all(it.is_ended for it in self.followers):
+            self._fail(f"{self._options.name} {why}", 1)
+        else:
+            self._say(f"{follower.name} {why}")
+
+    def _note_halt(self, follower: Follower) -> None:
         """A server halted: where it was the last one, nobody's write is answered any more."""
         if not self._follows():
             self.outbox.give_up_all()
-            if not self._is_caught_up:
+            if not self.is_caught_up and not follower.may_return:
                 self._fail("the node can't begin", 1)
 
     def _fail(self, why: str, status: int) -> None:
@@ -166,7 +210,7 @@ class Node:
         try:
             if self._options.snapshots and is_first:
                 self._say(await take_snapshot(follower))
-                self._snapshot_place = follower.state.place
+                self._note_snapshot(follower.state.place)
         except (XqError, OSError, ValueError) as error:
             self._say(f"no snapshot: {error}")
         if all(it.is_done or it.halted for it in self.followers):
@@ -184,12 +228,30 @@ class Node:
 
     async def _write(self, request: Request) -> None:
         assert request.peer is not None
-        if not self._follows() or self.failed.is_set():
-            request.peer.answer(request, WANTING_STORE)
+        refused = WANTING_STORE if self._is_cut_off() else await self._tried(request)
+        if refused or self._is_cut_off():
+            request.peer.answer(request, refused or WANTING_STORE)
             return
         pending = await self.outbox.put(request.payload)
         self._writes[request.peer] = pending
         pending.done.add_done_callback(partial(self._written, request))
+
+    def _is_cut_off(self) -> bool:
+        return not self._follows() or self.failed.is_set()
+
+    async def _tried(self, request: Request) -> bytes | None:
+        """Asks the query of a store as a query first, once the client's own writes before it are
+        answered; the reply by which it is refused."""
+        query = trials.query_of(request)
+        if query is None:
+            return None
+        await self._own_writes_of(request)
+        return await trials.refusal_of(query, self.reads.ask)
+
+    async def _own_writes_of(self, request: Request) -> None:
+        """Waits until this client's own writes before the request are answered."""
+        if request.peer and (before := self._writes.get(request.peer)):
+            await asyncio.wait((before.done,))
 
     @staticmethod
     def _written(request: Request, done: "asyncio.Future[bytes]") -> None:
@@ -206,8 +268,7 @@ class Node:
     async def _read(self, request: Request) -> None:
         """Hands a read to a server, once this client's own writes before it are answered."""
         assert request.peer is not None
-        if before := self._writes.get(request.peer):
-            await asyncio.wait((before.done,))
+        await self._own_writes_of(request)
         if self._options.is_fresh and not await self._has_all():
             request.peer.answer(request, WANTING_STORE)
             return
@@ -229,6 +290,18 @@ class Node:
         await (await self.outbox.put(entry)).done
         return "all nodes take a snapshot and end"
 
+    async def skip(self, place: int) -> str:
+        """Has all nodes skip the place at which a server of this one stepped aside."""
+        held = [it for it in self.followers if it.may_return and it.state.place + 1 == place]
+        if not held:
+            raise XqError(f"no server of this node has stepped aside at place {place:,}")
+        self.outbox.post(aside.skip_entry(place))
+        for _ in range(100):
+            await asyncio.sleep(0.1)
+            if not any(it.may_return and it.state.place + 1 == place for it in held):
+                return f"all nodes skip place {place:,}"
+        raise XqError("the log has not brought it back in 10 seconds: it may be skipped later")
+
     async def take_snapshot(self) -> str:
         """Takes a snapshot, by the server that is furthest; what is to be said of it."""
         able = [it for it in self.followers if it.is_ready and not it.halted]
@@ -237,8 +310,12 @@ class Node:
         # (one that lags would hold itself up; one that is at a long query would wait for that)
         furthest = max(able, key=lambda it: (it.state.place, -len(it.reading)))
         said = await take_snapshot(furthest)
-        self._snapshot_place = max(self._snapshot_place, furthest.state.place)
+        self._note_snapshot(furthest.state.place)
         return said
+
+    def _note_snapshot(self, place: int) -> None:
+        self._snapshot_place = max(self._snapshot_place, place)
+        self.snapshot_time = time.time()
 
     async def _watch_due(self) -> None:
         """Takes snapshots, and starts servers again before their limit of frames."""
@@ -254,9 +331,33 @@ class Node:
                 self._snapshot_place = max(it.state.place for it in self.followers)
 
     def _is_snapshot_due(self) -> bool:
-        place = max(it.state.place for it in self.followers)
-        return bool(self._options.snapshots) and (
-            place - self._snapshot_place >= self._options.every and self._follows())
+        """Whether one is due: at places that are others for each name, so that not all nodes take
+        theirs at once."""
+        if not self._options.snapshots or not self._follows():
+            return False
+        place, every = max(it.state.place for it in self.followers), self._options.every
+        return (place + self._shift) // every > (self._snapshot_place + self._shift) // every
+
+    async def _watch_held(self) -> None:
+        """Ends a server that a read holds for too long; one that an entry holds steps aside."""
+        longest = self._options.seconds
+        while True:
+            await asyncio.sleep(min(HELD, longest / 4))
+            for follower in self.followers:
+                follower.end_held(longest, ENTRY_TIMES * longest)
+
+    async def _watch_copies(self) -> None:
+        """Looks at how many brokers have a copy of the log, and warns until all have."""
+        told = ""
+        while True:
+            if self._log.is_read:
+                self.copies = await self._log.copies()
+                without = [name for name, has in self.copies.items() if has is False]
+                if without and told != str(without):
+                    self._say(f"{len(without)} of {len(self.copies)} brokers have no copy of the "
+                              f"log: {', '.join(without)} (xqs node --copies)")
+                told = str(without)
+            await asyncio.sleep(COPIES if self.copies else LOOK)
 
     async def _watch_silence(self) -> None:
         """Writes a mark where nothing comes: followers ask anew where that does not come either."""
@@ -272,8 +373,30 @@ class Node:
                 marked = now
 
     async def stop(self) -> None:
-        """Answers the frames that were read, ends the clients and then the servers in order."""
-        await self._clients.drain()
+        """Answers the frames that were read, ends the clients and then the servers in order.
+
+        What takes too long is ended at once: a node ends within some seconds, whatever holds it.
+        """
+        until = asyncio.get_running_loop().time() + ENDING
+        await self._drain()
+        try:
+            async with asyncio.timeout_at(until):
+                await self._end_in_order()
+        except TimeoutError:
+            self._say("the servers are ended at once, since one is held")
+            await self.abandon()
+
+    async def _drain(self) -> None:
+        """Answers the frames that were read, as far as that is soon."""
+        draining = asyncio.create_task(self._clients.drain())
+        await asyncio.wait((draining,), timeout=DRAINING)
+        if not draining.done():
+            self._say(f"clients still wait after {DRAINING:g} seconds: their streams are ended")
+            self._clients.cut_all()
+            await asyncio.wait((draining,), timeout=DRAINING / 4)
+        await cancelled(draining)
+
+    async def _end_in_order(self) -> None:
         async with contextlib.AsyncExitStack() as stack:
             # (nobody is to be stopped within an entry)
             for follower in self.followers:
