@@ -12,6 +12,7 @@ from tests.histories import History, faults
 from tests.local_nodes import COUNT_UP, LocalNode, NodesTest, planted
 from xqs.cluster import control, snapshots
 from xqs.cluster.follower import Follower
+from xqs.cluster.main import _actions
 from xqs.errors import Refused, Wanting, XqError
 
 ENDLESS = "every $x in 1 to 1000000, $y in 1 to 1000000 satisfies $x > 0"
@@ -362,7 +363,7 @@ class Stops(NodesTest):
         client = await self.client(nodes[0])
         await client.store("c", value(1))
         socket = control.control_path(self.folder)
-        actions = {"snapshot": nodes[0].node.take_snapshot, "end": nodes[0].node.end_all}
+        actions = _actions(nodes[0].node)
         server = await asyncio.start_unix_server(
             lambda *it: control.serve(actions, *it), str(socket))
         for request, words in (("snapshot", "1 documents of place 1"), ("x", "there is no 'x'"),

@@ -1,14 +1,19 @@
 """What a node computes and what it keeps in files, without an engine of logs."""
 
+import asyncio
 import contextlib
 import io
 import json
 import random
 import shlex
+import subprocess
+import sys
 import unittest
+from pathlib import Path
 
 from tests.histories import History, Read, Write, faults
-from tests.support import FolderTest, ServerTest, file_server, store_part
+from tests.local_nodes import planted
+from tests.support import FolderTest, ServerTest, file_server, server_command, store_part
 from xqs import Client, connect
 from xqs.backup import restore_main
 from xqs.cluster import addresses, batches, program, snapshots, sums
@@ -18,6 +23,7 @@ from xqs.cluster.seen import Seen
 from xqs.cluster.snapshots import NoSnapshot
 from xqs.cluster.state import NoState, State
 from xqs.cluster.store_file import NotOurs, StoreFile
+from xqs.mux_backend import StartFailed
 from xqs.protocol import MAX_REQUEST
 
 
@@ -234,6 +240,18 @@ class Addresses(unittest.TestCase):
                 addresses.log_address(text)
             self.assertNotIn("secret", str(raised.exception))
 
+    def test_brokers_of_other_machines_want_tls(self) -> None:
+        for text in ("amqp://u:p@127.0.0.1:5/docs,127.0.0.2,localhost", "amqps://m1/docs,m2",
+                     "amqp://localhost/docs,amqps://m2/docs", "amqp://[::1]/docs"):
+            addresses.check_ways(addresses.log_address(text), False)
+        for text in ("amqp://u:secret@m1/docs", "amqp://localhost/docs,m2",
+                     "amqps://m1/docs,amqp://10.0.0.2/docs"):
+            log = addresses.log_address(text)
+            with self.assertRaises(ValueError) as raised:
+                addresses.check_ways(log, False)
+            self.assertNotIn("secret", str(raised.exception))
+            addresses.check_ways(log, True)
+
 
 class States(unittest.TestCase):
     """How far a server has come."""
@@ -255,15 +273,34 @@ class States(unittest.TestCase):
 class Programs(FolderTest):
     """What names a program."""
 
-    def test_a_file_is_named_by_its_checksum_and_a_release_by_its_commit(self) -> None:
-        path = self.folder / "serve"
-        path.write_text("#!/bin/sh\n")
-        path.chmod(0o755)
-        self.assertRegex(program.name_of([str(path)]), r"^checksum [0-9a-f]{16}$")
-        (self.folder / "RELEASE.txt").write_text("xq_server, commit 0123abcd of 2026-11-26\n")
-        self.assertEqual(program.name_of([str(path), "--unproved"]), "unproved commit 0123abcd")
-        with self.assertRaises(program.NoProgram):
-            program.name_of([str(self.folder / "nothing")])
+    def named(self, *command: str) -> str:
+        """The name of the program that a command runs."""
+        return asyncio.run(program.name_of_running(command))
+
+    def test_the_name_is_that_of_the_program_whatever_starts_it(self) -> None:
+        own = self.named(*server_command())
+        self.assertRegex(own, r"^checksum [0-9a-f]{16}$")
+        script = self.folder / "start"
+        words = shlex.join(server_command())
+        for text in (f"exec {words}", f"{words}\nexit $?"):
+            script.write_text(f"#!/bin/sh\n{text}\n")
+            script.chmod(0o755)
+            self.assertEqual(self.named(str(script)), own, text)
+        self.assertEqual(self.named("prlimit", "--nofile=500", *server_command()), own)
+        self.assertEqual(self.named(*planted("want=x")), own)
+
+    def test_of_a_script_that_answers_itself_the_file_counts(self) -> None:
+        names = set()
+        for number in range(2):
+            path = self.folder / f"server{number}.py"
+            path.write_text(f"import sys\nsys.stdin.read({number + 1})\n")
+            with subprocess.Popen([sys.executable, str(path)], stdin=subprocess.PIPE) as process:
+                names.add(program.name_of_process(process.pid))
+        self.assertEqual(len(names), 2)
+
+    def test_what_does_not_run_is_refused(self) -> None:
+        with self.assertRaises(StartFailed):
+            self.named(str(self.folder / "nothing"))
 
 
 class Snapshots(ServerTest):

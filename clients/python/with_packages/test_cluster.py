@@ -75,8 +75,8 @@ class ClusterTest(unittest.IsolatedAsyncioTestCase):
 
     def made(self, name: str, *options: str, **others: object) -> RunningNode:
         """A node that has not begun."""
-        node = RunningNode(name, brokers, self.log, self.folder, "--seconds", "20", *options,
-                           **others)  # type: ignore[arg-type]
+        node = RunningNode(name, brokers, self.log, self.folder, "--seconds", "20",
+                           "--servers", "1", *options, **others)  # type: ignore[arg-type]
         self.addCleanup(self.ended, node)
         return node
 
@@ -385,7 +385,7 @@ class Servers(ClusterTest):
         for client in clients:
             await client.close()
         self.assertEqual(await asyncio.to_thread(nodes[2].process.wait, 60), 1)
-        self.assertRegex(nodes[2].said(), r"this node differs from others, and stops: at place "
+        self.assertRegex(nodes[2].said(), r"n3 differs from others, and stops: at place "
                          r"1000 node n3 \(program another\) has the sum [0-9a-f]{16}, and node "
                          r"n[12] \(program .+\) has the sum [0-9a-f]{16}")
         await all_taken(nodes[:2])

@@ -11,7 +11,8 @@ from xqs.cluster.log import Away, CannotFollow, Log
 from xqs.cluster.state import State
 
 AGAIN, LONGEST_PAUSE = 0.2, 2.0
-"""Seconds before the log is asked again where it could not be read; each pause doubles."""
+"""Seconds before the log is asked again where it could not be read; while it can be reached each
+pause doubles."""
 SILENT = 6.0
 """Seconds without a message, a mark of this node too, after which messages are asked for anew."""
 AT_ONCE = 2.0
@@ -49,7 +50,10 @@ class Feed:
                         yield offset, message
             except Away as error:
                 self._note_break(str(error), state)
-                await self._pauses.pause()
+                if self._log.is_read:
+                    await self._pauses.pause()
+                else:
+                    await asyncio.sleep(AGAIN)
 
     async def _once(self, state: State) -> AsyncGenerator[tuple[int, bytes], None]:
         """The messages until one is missed. Raises Away then, and CannotFollow."""

@@ -15,7 +15,9 @@ from xqs.cluster import aside, identity, trials
 from xqs.cluster.agreement import Differs
 from xqs.cluster.batches import EntryKind
 from xqs.cluster.follower import Ended, Follower, Given
-from xqs.cluster.log import Log
+from xqs.cluster.identity import PATIENCE
+from xqs.cluster.limits import within
+from xqs.cluster.log import Away, Log
 from xqs.cluster.names import Names
 from xqs.cluster.outbox import Outbox, Pending, Unknown
 from xqs.cluster.reads import WANTING_STORE, Reads
@@ -26,8 +28,9 @@ from xqs.mux_clients import Clients, Settings
 from xqs.mux_peer import Peer, Request
 from xqs.waiting import cancelled
 
-IDLE = 3.0
-"""Seconds without a message of the log after which a mark is written, to see that it comes."""
+IDLE, BEAT = 3.0, 5.0
+"""Seconds without a message of the log after which a mark is written, to see that it comes; and in
+any case, to see that it comes soon."""
 LOOK = 0.5
 """Seconds between two looks at what is due."""
 HELD = 0.25
@@ -74,8 +77,8 @@ class Node:
 
     def __init__(self, options: Options, log: Log, settings: Settings,
                  say: Callable[[str], None]) -> None:
-        self._options = options
-        self._log = log
+        self.options = options
+        self.log = log
         self._say = say
         self.outbox = Outbox(f"{options.name}/{os.urandom(6).hex()}", log, options.seconds)
         self.reads = Reads(READS_OF_ONE if options.servers == 1 else 1)
@@ -85,18 +88,19 @@ class Node:
         self.serve = self._clients.serve
         self._writes: weakref.WeakKeyDictionary[Peer, Pending] = weakref.WeakKeyDictionary()
         self._tasks: list[asyncio.Task[None]] = []
-        self._snapshot_place = 0
+        self.snapshot_place = 0
         self._shift = int.from_bytes(hashlib.sha256(options.name.encode()).digest()[:8]) % (
             options.every)
         self.names = Names(self.outbox, self._refuse_name)
         self.copies: dict[str, bool | None] = {}
+        self.end = -1
         self.snapshot_time: float | None = None
         self.is_caught_up = False
         self.failed = asyncio.Event()
         self.status = 0
 
     def _follower(self, number: int) -> Follower:
-        options = self._options
+        options = self.options
         name = options.name if options.servers == 1 else f"{options.name}.{number + 1}"
         command, file = list(options.command), None
         if options.file:
@@ -106,7 +110,7 @@ class Node:
             file = StoreFile(path.absolute())
         given = Given(name, options.name, command, options.program, file, options.snapshots,
                       options.memory)
-        return Follower(given, self._log, self.outbox, self.reads, self._say)
+        return Follower(given, self.log, self.outbox, self.reads, self._say)
 
     async def start(self) -> None:
         """Starts the servers, and follows the log up to what it held as this was called.
@@ -115,14 +119,14 @@ class Node:
         errors of a restore; `failed` is set where the log can't be followed so far.
         """
         await asyncio.gather(*(it.begin() for it in self.followers))
-        self._snapshot_place = self.followers[0].state.place
+        self.snapshot_place = self.followers[0].state.place
         if not all(it.state.identity for it in self.followers):
             self.outbox.post(identity.new_entry())
         for follower in self.followers:
             follower.names = self.names
         self.names.greet()
         work = [self.outbox.run(), self._watch_silence(), self._watch_due(), self._watch_held(),
-                self._watch_copies(), self._clients.watch_unread()]
+                self._watch_copies(), self._find_end(), self._clients.watch_unread()]
         self._tasks = [asyncio.create_task(it) for it in work]
         self._tasks += [asyncio.create_task(self._run(it)) for it in self.followers]
         for task in self._tasks:
@@ -152,7 +156,7 @@ class Node:
                 self._say("waits for the log")
 
     def _refuse_name(self) -> None:
-        self._fail(f"another node of the name {self._options.name} follows this log: give each a "
+        self._fail(f"another node of the name {self.options.name} follows this log: give each a "
                    "name of its own (--name)", 1)
 
     def _note_caught_up(self) -> None:
@@ -184,7 +188,7 @@ class Node:
         follower.is_ready, follower.is_ended = False, True
         follower.abandon()
         if all(it.is_ended for it in self.followers):
-            self._fail(f"{self._options.name} {why}", 1)
+            self._fail(f"{self.options.name} {why}", 1)
         else:
             self._say(f"{follower.name} {why}")
 
@@ -208,7 +212,7 @@ class Node:
         is_first = not any(it.is_done for it in self.followers)
         follower.is_done = True
         try:
-            if self._options.snapshots and is_first:
+            if self.options.snapshots and is_first:
                 self._say(await take_snapshot(follower))
                 self._note_snapshot(follower.state.place)
         except (XqError, OSError, ValueError) as error:
@@ -269,7 +273,7 @@ class Node:
         """Hands a read to a server, once this client's own writes before it are answered."""
         assert request.peer is not None
         await self._own_writes_of(request)
-        if self._options.is_fresh and not await self._has_all():
+        if self.options.is_fresh and not await self._has_all():
             request.peer.answer(request, WANTING_STORE)
             return
         await self.reads.send(request)
@@ -286,7 +290,7 @@ class Node:
 
     async def end_all(self) -> str:
         """Has all nodes that follow the log end at the same place; what is to be said of it."""
-        entry = EntryKind.END.value + self._options.program.encode()
+        entry = EntryKind.END.value + self.options.program.encode()
         await (await self.outbox.put(entry)).done
         return "all nodes take a snapshot and end"
 
@@ -314,7 +318,7 @@ class Node:
         return said
 
     def _note_snapshot(self, place: int) -> None:
-        self._snapshot_place = max(self._snapshot_place, place)
+        self.snapshot_place = max(self.snapshot_place, place)
         self.snapshot_time = time.time()
 
     async def _watch_due(self) -> None:
@@ -328,19 +332,19 @@ class Node:
                     self._say(await self.take_snapshot())
             except (XqError, OSError, ValueError) as error:
                 self._say(f"no snapshot: {error}")
-                self._snapshot_place = max(it.state.place for it in self.followers)
+                self.snapshot_place = max(it.state.place for it in self.followers)
 
     def _is_snapshot_due(self) -> bool:
         """Whether one is due: at places that are others for each name, so that not all nodes take
         theirs at once."""
-        if not self._options.snapshots or not self._follows():
+        if not self.options.snapshots or not self._follows():
             return False
-        place, every = max(it.state.place for it in self.followers), self._options.every
-        return (place + self._shift) // every > (self._snapshot_place + self._shift) // every
+        place, every = max(it.state.place for it in self.followers), self.options.every
+        return (place + self._shift) // every > (self.snapshot_place + self._shift) // every
 
     async def _watch_held(self) -> None:
         """Ends a server that a read holds for too long; one that an entry holds steps aside."""
-        longest = self._options.seconds
+        longest = self.options.seconds
         while True:
             await asyncio.sleep(min(HELD, longest / 4))
             for follower in self.followers:
@@ -350,14 +354,22 @@ class Node:
         """Looks at how many brokers have a copy of the log, and warns until all have."""
         told = ""
         while True:
-            if self._log.is_read:
-                self.copies = await self._log.copies()
+            if self.log.is_read:
+                self.copies = await self.log.copies()
                 without = [name for name, has in self.copies.items() if has is False]
                 if without and told != str(without):
                     self._say(f"{len(without)} of {len(self.copies)} brokers have no copy of the "
                               f"log: {', '.join(without)} (xqs node --copies)")
                 told = str(without)
             await asyncio.sleep(COPIES if self.copies else LOOK)
+
+    async def _find_end(self) -> None:
+        """Asks for the log's end once, as soon as this node has its first entry: how far it has to
+        go where it catches up."""
+        while not any(it.state.identity for it in self.followers):
+            await asyncio.sleep(LOOK)
+        with contextlib.suppress(Away):
+            self.end = await within(PATIENCE, self.log.end_offset())
 
     async def _watch_silence(self) -> None:
         """Writes a mark where nothing comes: followers ask anew where that does not come either."""
@@ -367,8 +379,8 @@ class Node:
             await asyncio.sleep(LOOK)
             now = loop.time()
             waited = [now - it.waits_since for it in self.followers if it.waits_since is not None]
-            if (self._log.is_up and waited and max(waited) >= IDLE and now - marked >= IDLE
-                    and not len(self.outbox)):
+            is_due = now - marked >= (IDLE if waited and max(waited) >= IDLE else BEAT)
+            if self.log.is_up and is_due and not len(self.outbox) and self._follows():
                 self.outbox.mark()
                 marked = now
 
@@ -417,7 +429,7 @@ class Node:
     async def _take_last_snapshot(self) -> None:
         """At an end in order, where the documents are in memory and changed since the last one."""
         place = max(it.state.place for it in self.followers)
-        if self._options.snapshots and not self._options.file and place > self._snapshot_place:
+        if self.options.snapshots and not self.options.file and place > self.snapshot_place:
             try:
                 self._say(await self.take_snapshot())
             except (XqError, OSError, ValueError) as error:

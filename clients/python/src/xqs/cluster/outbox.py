@@ -4,7 +4,7 @@ import asyncio
 import collections
 import time
 
-from xqs.cluster.batches import MARK, Batch, encode, fitting
+from xqs.cluster.batches import MARK, Batch, EntryKind, changes, encode, fitting
 from xqs.cluster.limits import NoAnswer, within
 from xqs.cluster.log import Away, Log
 from xqs.cluster.steps import passed
@@ -95,6 +95,12 @@ class Outbox:
         self._bytes += len(entry)
         self._work.set()
         return pending
+
+    def lag(self) -> float:
+        """For how many seconds the oldest entry that was put has not come back."""
+        for pending in self._pending.values():
+            return max(0.0, time.monotonic() - (pending.until - self._seconds))
+        return 0.0
 
     def mark(self) -> Pending:
         """A mark behind all entries that were put so far; one that was not sent yet is shared."""
@@ -194,6 +200,8 @@ class Outbox:
 
     def _give_up(self, pending: Pending) -> None:
         if not pending.done.done():
-            self._make_room(len(pending.entry) - len(MARK))
-            pending.entry = MARK
+            # (what the node says of itself is told late rather than never)
+            if changes(pending.entry) or pending.entry[:1] == EntryKind.END:
+                self._make_room(len(pending.entry) - len(MARK))
+                pending.entry = MARK
             pending.done.set_exception(Unknown("the log did not bring it back in time"))
