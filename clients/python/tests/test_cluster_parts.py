@@ -9,7 +9,6 @@ import shlex
 import subprocess
 import sys
 import unittest
-from pathlib import Path
 
 from tests.histories import History, Read, Write, faults
 from tests.local_nodes import planted

@@ -188,6 +188,20 @@ class Writer:
                                         time.monotonic(), self.name, is_fresh))
 
 
+async def follows_again(node: RunningNode, since: float, seconds: float) -> float | None:
+    """Seconds from a time to the first store after it that a node answers; None where it answers
+    none within so many seconds of now."""
+    end = time.monotonic() + seconds
+    while time.monotonic() < end:
+        with suppress(XqError, OSError, TimeoutError):
+            async with asyncio.timeout_at(asyncio.get_running_loop().time() + seconds):
+                async with await aio.connect(node.place) as client:
+                    await client.store(f"seen/{node.name}", value(1))
+                return time.monotonic() - since
+        await asyncio.sleep(0.1)
+    return None
+
+
 async def all_taken(nodes: Sequence[RunningNode]) -> None:
     """Waits until each node has carried out all that the log held when this was called.
 

@@ -219,9 +219,9 @@ class Machines:
         space = os.readlink(f"/proc/{self._ids[name]}/ns/pid")
         for entry in Path("/proc").iterdir():
             try:
-                if (entry.name.isdigit() and os.readlink(entry / "ns" / "pid") == space
-                        and words in (entry / "cmdline").read_bytes().replace(b"\0", b" ").decode()):
-                    found.append(int(entry.name))
+                if entry.name.isdigit() and os.readlink(entry / "ns" / "pid") == space:
+                    line = (entry / "cmdline").read_bytes().replace(b"\0", b" ").decode()
+                    found += [int(entry.name)] if words in line else []
             except OSError:
                 continue
         return found

@@ -7,10 +7,10 @@ import asyncio
 import os
 import shutil
 import signal
+import statistics
 import tempfile
 import time
 import unittest
-from contextlib import suppress
 from pathlib import Path
 
 import tests  # noqa: F401 (puts the package on the path)
@@ -21,10 +21,8 @@ except ImportError as error:
     raise unittest.SkipTest("aio_pika is not installed") from error
 
 from brokers import PATIENCE, Brokers, missing
-from clusters import SHARED, RunningNode, Writer, all_taken, value
+from clusters import SHARED, RunningNode, Writer, all_taken, follows_again
 from tests.histories import History, faults
-from xqs import aio
-from xqs.errors import XqError
 
 RESTARTS = int(os.environ.get("XQS_RESTARTS", "4"))
 WITHOUT_PROGRESS = 20.0
@@ -78,8 +76,8 @@ class Restarts(unittest.IsolatedAsyncioTestCase):
         maps = [await node.documents() for node in nodes]
         self.assertEqual(faults(self.history, maps, SHARED.encode()), [])
         print(f"{RESTARTS} restarts: {len(self.history.writes):,} writes, at most {max(worst):.1f} "
-              f"s without progress once a broker was back, median {sorted(worst)[len(worst) // 2]:.1f} s; "
-              f"the load is {os.getloadavg()[0]:.1f}")
+              "s without progress once a broker was back, median "
+              f"{statistics.median(worst):.1f} s; the load is {os.getloadavg()[0]:.1f}")
         self.assertLessEqual(max(worst), WITHOUT_PROGRESS)
 
     async def restart(self, name: str) -> None:
@@ -91,16 +89,11 @@ class Restarts(unittest.IsolatedAsyncioTestCase):
 
     async def progress(self, node: RunningNode, back: float) -> float:
         """Seconds from the broker's return to the first store that the node answers."""
-        end = back + GIVEN_UP
-        while time.monotonic() < end:
-            with suppress(XqError, OSError, TimeoutError):
-                async with asyncio.timeout(end - time.monotonic()):
-                    async with await aio.connect(node.place) as client:
-                        await client.store(f"seen/{node.name}", value(1))
-                    return time.monotonic() - back
-            await asyncio.sleep(0.1)
-        self.tell([node])
-        self.fail(f"{node.name} has not followed again within {GIVEN_UP:g} seconds")
+        taken = await follows_again(node, back, GIVEN_UP)
+        if taken is None:
+            self.tell([node])
+            self.fail(f"{node.name} has not followed again within {GIVEN_UP:g} seconds")
+        return taken
 
     @staticmethod
     def tell(nodes: list[RunningNode]) -> None:

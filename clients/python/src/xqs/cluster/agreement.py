@@ -1,4 +1,4 @@
-"""Whether nodes agree: every so many places each reports its sum in the log, one vote for a node."""
+"""Whether nodes agree: every so many places each reports its sum in the log, with one vote."""
 
 import json
 from collections import Counter

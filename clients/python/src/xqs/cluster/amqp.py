@@ -14,7 +14,6 @@ from xqs.cluster.addresses import LogAddress, shown
 from xqs.cluster.amqp_link import (
     FAREWELL, NO_STREAM, OFFSET, PATIENCE, Link, NoCopy, Words, farewell, told_as_away,
 )
-from xqs.cluster.amqp_link import quiet as quiet
 from xqs.cluster.batches import probe
 from xqs.cluster.limits import within
 from xqs.cluster.log import Away, CannotFollow

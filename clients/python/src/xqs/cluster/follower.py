@@ -55,7 +55,7 @@ class Ended(Exception):
 @dataclass(frozen=True)
 class Given:
     """What a follower is given: its name and that of its node, its server's command, the program
-    that this runs, where its documents and snapshots are, and the memory that its server may have."""
+    that this runs, where its documents and snapshots are, and the memory of its server."""
 
     name: str
     node: str
@@ -300,8 +300,8 @@ class Follower:
         if self.may_return:
             hint = (f"; it goes on from a later snapshot of another node, once that is in its "
                     f"folder, or where all nodes skip the entry (xqs node --skip {place})")
-        self._say(f"{self.name} steps aside, and no longer follows the log, at {self.state}: {why}; "
-                  f"reads are answered with the documents of that place{hint}")
+        self._say(f"{self.name} steps aside, and no longer follows the log, at {self.state}: "
+                  f"{why}; reads are answered with the documents of that place{hint}")
         self._reads.changed()
 
     async def _begin_again(self) -> None:
@@ -352,7 +352,7 @@ class Follower:
         give(request, reply)
 
     async def _follow(self) -> None:
-        """Takes each message of the log as it comes. Raises CannotFollow, Halted, Differs, Ended."""
+        """Takes each message of the log as it comes, until it raises what ends that."""
         self._wait_begins()
         async with aclosing(self._feed.messages(self.state)) as messages:
             async for offset, message in messages:

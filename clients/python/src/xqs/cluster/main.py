@@ -40,7 +40,8 @@ async def run(address: LogAddress, place: str, options: Options, settings: Setti
     Raises PlaceError, StartFailed, CannotFollow, and what else keeps it from beginning.
     """
     # (here, so that all else works where the package is not installed)
-    from xqs.cluster.amqp import AmqpLog, quiet
+    from xqs.cluster.amqp import AmqpLog
+    from xqs.cluster.amqp_link import quiet
 
     quiet()
     asyncio.get_running_loop().set_exception_handler(_on_fault)

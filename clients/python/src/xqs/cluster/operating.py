@@ -61,7 +61,8 @@ def _status(folder: Path, is_json: bool) -> int:
 
 async def _copies(address: LogAddress) -> int:
     # (here, so that all else works where the package is not installed)
-    from xqs.cluster.amqp import AmqpLog, quiet
+    from xqs.cluster.amqp import AmqpLog
+    from xqs.cluster.amqp_link import quiet
 
     quiet()
     found = await AmqpLog(address, lambda line: None).copies()
