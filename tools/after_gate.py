@@ -30,7 +30,8 @@ CLIENT = TOP / "clients" / "python"
 PYTHONS = (sys.executable, "/usr/bin/python3")
 PACKAGES = {
     "test_cluster": ("aio_pika",), "test_cluster_restarts": ("aio_pika",),
-    "test_cluster_torture": ("aio_pika",), "test_page": ("aiohttp",), "test_page_tools": ("aiohttp",),
+    "test_cluster_torture": ("aio_pika",), "test_page": ("aiohttp",),
+    "test_page_tools": ("aiohttp",),
     "test_page_values": ("aiohttp",), "test_toolkit": ("prompt_toolkit",),
     "test_web": ("aiohttp",), "test_web_http": ("aiohttp",), "test_web_slow": ("aiohttp",)
 }

@@ -152,8 +152,8 @@ class Machines:
     def _make(self, name: str, server: Sequence[str], top: Path) -> None:
         room = self.room / name
         for folder in OVERLAID:
-            for end in ("up", "work"):
-                (room / f"{folder}.{end}").mkdir(parents=True)
+            for part in ("up", "work"):
+                (room / f"{folder}.{part}").mkdir(parents=True)
         self._fill_opt(room / "opt.up" / "xq_server", server, top)
         hosts = ["'127.0.0.1 localhost'"] + [f"'10.88.0.{number} {it}'"
                                              for number, it in enumerate(self.names, 1)]
