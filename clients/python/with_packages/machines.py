@@ -44,12 +44,14 @@ _SYSTEMCTL = """#!/bin/bash
 set -eu
 quiet='+S 2:2 +sbwt none +sbwtdcpu none +sbwtdio none'
 start_broker() {
+    cd /var/lib/rabbitmq
     runuser -u rabbitmq -- env -i PATH=/usr/sbin:/usr/bin:/sbin:/bin HOME=/var/lib/rabbitmq \\
         LANG=C.UTF-8 RABBITMQ_ALLOW_INPUT=1 RABBITMQ_SERVER_START_ARGS=-noinput \\
         RABBITMQ_SERVER_ADDITIONAL_ERL_ARGS="$quiet" setsid /usr/lib/rabbitmq/bin/rabbitmq-server \\
         >>/var/log/rabbitmq/out 2>&1 </dev/null &
-    for _ in $(seq 60); do
+    for _ in $(seq 300); do
         sleep 1
+        grep -q 'Starting broker... completed' /var/log/rabbitmq/out || continue
         rabbitmqctl --timeout 300 await_startup >/dev/null 2>&1 && return
     done
     cat /var/log/rabbitmq/out >&2
@@ -77,7 +79,7 @@ stop() {
 }
 case "$*" in
     "stop rabbitmq-server") rabbitmqctl --timeout 60 stop >/dev/null 2>&1 || true ;;
-    "start rabbitmq-server") start_broker ;;
+    "start rabbitmq-server") rm -f /var/log/rabbitmq/out; start_broker ;;
     "start xqs-node"|"enable --now xqs-node") start_node ;;
     "stop xqs-node") stop /run/xqs-node.pid ;;
     daemon-reload) ;;

@@ -91,6 +91,10 @@ class Agreement:
         self._judge(place - EVERY)
         return report
 
+    def own(self, place: int) -> Report | None:
+        """This server's report of a place, while it is kept."""
+        return self._own.get(place)
+
     def is_disputed(self, place: int) -> bool:
         """Whether another sum than this server's was heard of the place."""
         return place in self._own and bool(self._against(place))

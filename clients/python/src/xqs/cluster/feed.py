@@ -15,7 +15,7 @@ AGAIN, LONGEST_PAUSE = 0.2, 2.0
 pause doubles."""
 SILENT = 6.0
 """Seconds without a message, a mark of this node too, after which messages are asked for anew."""
-AT_ONCE = 2.0
+AT_ONCE = 5.0
 """Seconds in which the last message that was taken has to come, where it is asked for again."""
 DIGITS = 16
 

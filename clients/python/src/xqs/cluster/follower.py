@@ -98,6 +98,7 @@ class Follower:
         self.skips: set[int] = set()
         self.names: Names | None = None
         self._tied_at = 0
+        self._reported: set[int] = set()
         self._aside: dict[int, str] = {}
         self._backend: Backend | None = None
         self._feed = Feed(given.name, log, say)
@@ -464,11 +465,16 @@ class Follower:
     def _report(self) -> None:
         """Reports the sum, where that is due: while this node catches up only what is disputed."""
         place, state = self.state.place, self.state
-        report = self.agreement.reached(place, state.total, state.skips)
-        if report:
+        if self.agreement.reached(place, state.total, state.skips):
             self.state.reports = self.agreement.sums
-            if self.is_reporting or self.agreement.is_disputed(place):
-                self._outbox.post(report.entry())
+            self._post_report(place)
+
+    def _post_report(self, place: int) -> None:
+        report = self.agreement.own(place)
+        is_wanted = self.is_reporting or self.agreement.is_disputed(place)
+        if report and is_wanted and place not in self._reported:
+            self._reported.add(place)
+            self._outbox.post(report.entry())
 
     def _hear(self, entry: bytes, sender: str) -> None:
         """Takes an entry that changes no document. Raises Differs, Tied, CannotFollow, GoBack."""
@@ -481,8 +487,17 @@ class Follower:
             self.names.hear_hello(sender, self.state.seen)
         elif kind == EntryKind.TAKEN and self.names:
             self.names.hear_taken(entry[1:].decode(errors="replace"))
-        elif (report := Report.of(entry)) and (said := self.agreement.hear(report)):
-            self._say(said)
+        elif report := Report.of(entry):
+            self._hear_report(report)
+
+    def _hear_report(self, report: Report) -> None:
+        try:
+            if said := self.agreement.hear(report):
+                self._say(said)
+        finally:
+            # (two that differ wait for what a third one says, also where it comes later)
+            if self.agreement.is_disputed(report.place):
+                self._post_report(report.place)
 
     def _check_program(self, program: str) -> None:
         if program != self.given.program:

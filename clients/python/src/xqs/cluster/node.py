@@ -40,8 +40,8 @@ ENTRY_TIMES = 5
 to carry out what another one tried."""
 CLAIM = 0.5
 """Seconds in which a node of the same name may refuse this one, before it takes clients."""
-COPIES = 30.0
-"""Seconds between two looks at how many brokers have a copy, while some have none."""
+COPIES, LATER = 30.0, 300.0
+"""Seconds between two looks at how many brokers have a copy, while some have none, and later."""
 ENDING, DRAINING = 4.5, 2.0
 """Seconds for an end in order, and of these for what clients wait for."""
 READS_OF_ONE = 16
@@ -361,7 +361,8 @@ class Node:
                     self._say(f"{len(without)} of {len(self.copies)} brokers have no copy of the "
                               f"log: {', '.join(without)} (xqs node --copies)")
                 told = str(without)
-            await asyncio.sleep(COPIES if self.copies else LOOK)
+            is_whole = bool(self.copies) and all(self.copies.values())
+            await asyncio.sleep(LATER if is_whole else COPIES if self.copies else LOOK)
 
     async def _find_end(self) -> None:
         """Asks for the log's end once, as soon as this node has its first entry: how far it has to
@@ -415,8 +416,7 @@ class Node:
                 await stack.enter_async_context(follower.between)
             await cancelled(*self._tasks)
         await self._take_last_snapshot()
-        for follower in self.followers:
-            await self._end(follower)
+        await asyncio.gather(*map(self._end, self.followers))
 
     async def _end(self, follower: Follower) -> None:
         if follower.is_ended:
