@@ -10,6 +10,7 @@ import shlex
 import shutil
 import signal
 import struct
+import subprocess
 import sys
 import tempfile
 import threading
@@ -31,7 +32,7 @@ from brokers import Brokers, missing
 from clusters import BEGINNING, SHARED, RunningNode, Writer, all_taken, value
 from tests.histories import History, faults
 from tests.local_nodes import planted
-from tests.serving import Connection, RunningMux, store_body
+from tests.serving import SOURCES, Connection, RunningMux, store_body
 from tests.support import TOP
 from xqs import connect
 from xqs.cluster.addresses import log_address
@@ -289,6 +290,10 @@ class Logs(ClusterTest):
         brokers.control("a", "add_user", "xqs", "a-word")
         self.addCleanup(brokers.control, "a", "delete_user", "xqs")
         brokers.control("a", *words)
+        early = self.made("n0", account="xqs:a-word")
+        early.begin(is_awaited=False)
+        await asyncio.to_thread(early.wait_for, "ACCESS_REFUSED", 90)
+        await self.declare({"x-queue-type": "stream"})
         node = self.begun("n1", account="xqs:a-word")
         async with await node.connect() as client:
             self.assertFalse(await client.store("c", value(1)))
@@ -297,6 +302,35 @@ class Logs(ClusterTest):
         other.begin(is_awaited=False)
         await asyncio.to_thread(other.wait_for, "no log at 127.0.0.1")
         self.assertNotIn("another", other.said())
+
+    async def test_that_account_may_not_delete_or_purge_the_log(self) -> None:
+        await self.declare({"x-queue-type": "stream"})
+        brokers.control("a", "add_user", "xqs2", "a-word")
+        self.addCleanup(brokers.control, "a", "delete_user", "xqs2")
+        brokers.control("a", "set_permissions", "xqs2", "^$", f"^({self.log}|amq\\.default)$",
+                        f"^{self.log}$")
+        where = log_address(brokers.address(self.log, account="xqs2:a-word"))
+        for what in ("delete", "purge"):
+            connection = await aio_pika.connect(where.brokers[0])
+            async with connection:
+                channel = await connection.channel()
+                queue = await channel.get_queue(self.log)
+                with self.assertRaises(Exception, msg=what):
+                    await getattr(queue, what)()
+
+    async def test_copies_are_counted_and_a_broker_without_one_is_left(self) -> None:
+        await self.declare({"x-queue-type": "stream", "x-initial-cluster-size": 1})
+        words = [sys.executable, "-m", "xqs", "node", "--copies", "--log", brokers.address(self.log)]
+        done = await asyncio.to_thread(subprocess.run, words, cwd=SOURCES, capture_output=True,
+                                       text=True, timeout=120)
+        self.assertEqual(done.returncode, 1, done.stderr)
+        self.assertEqual(done.stdout.count("has no copy"), 2, done.stdout)
+        self.assertIn(f"rabbitmq-streams add_replica {self.log}", done.stderr)
+        node = self.begun("n1", first=1)
+        self.assertIn("this broker has no copy of the log", node.said())
+        await asyncio.to_thread(node.wait_for, "2 of 3 brokers have no copy of the log", 90)
+        async with await node.connect() as client:
+            await client.store("c", value(1))
 
     async def declare(self, arguments: dict[str, str | int]) -> None:
         """Makes a queue of the log's name."""
