@@ -320,7 +320,8 @@ class Logs(ClusterTest):
 
     async def test_copies_are_counted_and_a_broker_without_one_is_left(self) -> None:
         await self.declare({"x-queue-type": "stream", "x-initial-cluster-size": 1})
-        words = [sys.executable, "-m", "xqs", "node", "--copies", "--log", brokers.address(self.log)]
+        words = [sys.executable, "-m", "xqs", "node", "--copies", "--log",
+                 brokers.address(self.log)]
         done = await asyncio.to_thread(subprocess.run, words, cwd=SOURCES, capture_output=True,
                                        text=True, timeout=120)
         self.assertEqual(done.returncode, 1, done.stderr)

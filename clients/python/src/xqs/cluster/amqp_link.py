@@ -176,6 +176,8 @@ def told_as_away() -> Iterator[None]:
 
 def reason(error: BaseException) -> str:
     """What an error of the package says."""
+    if isinstance(error, TimeoutError):
+        return "no answer"
     return str(error) or type(error).__name__
 
 
