@@ -31,7 +31,8 @@ PYTHONS = (sys.executable, "/usr/bin/python3")
 PACKAGES = {
     "test_cluster": ("aio_pika",), "test_cluster_amqp": ("aio_pika",),
     "test_cluster_restarts": ("aio_pika",), "test_cluster_torture": ("aio_pika",),
-    "test_page": ("aiohttp",), "test_page_tools": ("aiohttp",), "test_page_values": ("aiohttp",), "test_toolkit": ("prompt_toolkit",),
+    "test_page": ("aiohttp",), "test_page_tools": ("aiohttp",), "test_page_values": ("aiohttp",),
+    "test_toolkit": ("prompt_toolkit",),
     "test_web": ("aiohttp",), "test_web_http": ("aiohttp",), "test_web_slow": ("aiohttp",)
 }
 """The Python packages that the client's long tests want, by their files."""
