@@ -156,6 +156,7 @@ class Machines:
         for folder in OVERLAID:
             for part in ("up", "work"):
                 (room / f"{folder}.{part}").mkdir(parents=True)
+        (room / "root.up").chmod(0o700)
         self._fill_opt(room / "opt.up" / "xq_server", server, top)
         hosts = ["'127.0.0.1 localhost'"] + [f"'10.88.0.{number} {it}'"
                                              for number, it in enumerate(self.names, 1)]
