@@ -40,6 +40,10 @@ VAIN_TRIES = 3
 """So many servers in turn may end at one entry; then it is left to whoever looks at it."""
 
 
+OWN_SECONDS = 120.0
+"""Seconds for one request of a snapshot or of a restore, at least."""
+
+
 class Halted(XqError):
     """The server can't carry out what comes next in the log, and has carried out all before it."""
 
@@ -230,10 +234,17 @@ class Follower:
             if back or self.may_return:
                 await self._go_on(back[0] if back else "its server has ended")
                 return True
-            self.is_ready, self.is_ended = False, True
-            self._settle_in_flight()
-            self._reads.changed()
+            await self.give_up()
             return False
+
+    async def give_up(self) -> None:
+        """Ends the server for good; its reads go to others."""
+        self.is_ready, self.is_ended = False, True
+        if self._backend is not None:
+            self.backend.kill()
+            await self.backend.ended.wait()
+            self._settle_in_flight()
+        self._reads.changed()
 
     def _ways_back(self) -> Iterator[Coroutine[None, None, str]]:
         """What may have the server go on; each says what it was."""
@@ -279,14 +290,17 @@ class Follower:
 
     def end_held(self, seconds: float, entry_seconds: float) -> None:
         """Ends a server that a read holds for longer than the seconds, or an entry for longer than
-        its own; the next server halts before that entry."""
+        its own; the next server halts before that entry. What this node asks for a snapshot may
+        take long, and not for ever."""
         if self._backend is None or self.backend.ended.is_set() or not self.backend.in_flight:
             return
         front, worked = self.backend.in_flight[0], self.backend.worked()
-        if isinstance(front, Asked) and worked > entry_seconds:
+        if isinstance(front, Asked):
+            if worked <= entry_seconds:
+                return
             self._aside[front.place] = (f"the entry of place {front.place:,} held its server for "
                                         f"over {entry_seconds:g} seconds")
-        elif not (front in self.reading and worked > seconds):
+        elif worked <= (seconds if front in self.reading else max(entry_seconds, OWN_SECONDS)):
             return
         self.backend.overdue = front
         self.backend.kill()

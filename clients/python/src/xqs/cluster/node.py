@@ -176,17 +176,16 @@ class Node:
         except Ended:
             await self._end_for_all(follower)
         except Differs as error:
-            self._end_one(follower, f"differs from others, and stops: {error}")
+            await self._end_one(follower, f"differs from others, and stops: {error}")
         except (XqError, OSError, ValueError) as error:
-            self._end_one(follower, str(error))
+            await self._end_one(follower, str(error))
         if all(it.is_ended for it in self.followers):
             self._fail("no server is left", 1)
         self.reads.changed()
 
-    def _end_one(self, follower: Follower, why: str) -> None:
+    async def _end_one(self, follower: Follower, why: str) -> None:
         """Ends a server that must not go on; the others do."""
-        follower.is_ready, follower.is_ended = False, True
-        follower.abandon()
+        await follower.give_up()
         if all(it.is_ended for it in self.followers):
             self._fail(f"{self.options.name} {why}", 1)
         else:
