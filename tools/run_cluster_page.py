@@ -153,14 +153,17 @@ async def purge(channel):
     await queue.purge()
 asyncio.run(go(delete)); asyncio.run(go(purge))
 END""")
-    print(f"   delete and purge by the account: {' '.join(refused.split())}")
-    assert "NOT" not in refused and refused.count("refused:") == 2, refused
+    print("   delete and purge by the account:",
+          ", ".join(it for it in refused.splitlines() if it.startswith("refused")))
+    assert "NOT refused" not in refused and refused.count("refused:") == 2, refused
 
 
 def main() -> int:
     """Runs the page; gives the exit status."""
     parser = argparse.ArgumentParser(description=(__doc__ or "").splitlines()[0])
     parser.add_argument("--server", default=os.environ.get("XQS_SERVER") or str(TOP / "serve"))
+    # (what is printed comes as it happens, also to a file)
+    sys.stdout.reconfigure(line_buffering=True)  # type: ignore[union-attr]
     parser.add_argument("--show", action="store_true", help="show the blocks and run nothing")
     given = parser.parse_args()
     found = list(blocks((TOP / "docs" / "CLUSTER.md").read_text(encoding="utf-8")))

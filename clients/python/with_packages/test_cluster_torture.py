@@ -61,7 +61,7 @@ class MachineNode(RunningNode):
         self.place = f"unix:{folder}/{name}.sock"
         self.snapshots = folder / f"snapshots-{name}"
         self.snapshots.mkdir()
-        self.errors = folder / f"{name}.said"
+        self._folder = folder
         self._machines = machines
         words = ["exec /opt/xq_server/xqs node --listen", self.place, "--name", name, "--snapshots",
                  str(self.snapshots), *options, "-- /opt/xq_server/serve"]
@@ -71,6 +71,7 @@ class MachineNode(RunningNode):
     def begin(self, end_at: str = "", is_awaited: bool = True) -> None:
         """Starts it."""
         self.lives += 1
+        self.errors = self._folder / f"{self.name}-{self.lives}.said"
         self.process = self._machines.start(self.name, self._script, self.errors)
         if is_awaited:
             self.wait_until_it_listens()
@@ -286,8 +287,9 @@ class Torture(unittest.IsolatedAsyncioTestCase):
         self.findings += faults(self.history, maps, SHARED.encode())
         for node in self.nodes:
             await node.snapshot()
-            if "Traceback" in node.said():
-                self.findings.append(f"{node.name}: {node.said()[-3000:]}")
+        for path in self.folder.glob("*.said"):
+            if "Traceback" in (said := path.read_text()):
+                self.findings.append(f"{path.name}: {said[-3000:]}")
         states = [judge(max(it.snapshots.glob("*.snapshot"))).state for it in self.nodes]
         history = self.history
         known = sum(it.is_acknowledged for _, it in history.writes) + history.counted
