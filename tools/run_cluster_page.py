@@ -13,6 +13,7 @@ wants root, rabbitmq-server, python3-aio-pika and openssl; nothing is installed.
 from __future__ import annotations
 
 import argparse
+import io
 import os
 import pathlib
 import re
@@ -163,7 +164,8 @@ def main() -> int:
     parser = argparse.ArgumentParser(description=(__doc__ or "").splitlines()[0])
     parser.add_argument("--server", default=os.environ.get("XQS_SERVER") or str(TOP / "serve"))
     # (what is printed comes as it happens, also to a file)
-    sys.stdout.reconfigure(line_buffering=True)  # type: ignore[union-attr]
+    if isinstance(sys.stdout, io.TextIOWrapper):
+        sys.stdout.reconfigure(line_buffering=True)
     parser.add_argument("--show", action="store_true", help="show the blocks and run nothing")
     given = parser.parse_args()
     found = list(blocks((TOP / "docs" / "CLUSTER.md").read_text(encoding="utf-8")))
