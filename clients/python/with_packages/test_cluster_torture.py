@@ -191,7 +191,7 @@ class Torture(unittest.IsolatedAsyncioTestCase):
                 self.findings.append(f"{node.name} without progress after {what}: {seconds}")
                 print(f"--- {node.name}", *node.said().splitlines()[-20:], sep="\n", flush=True)
 
-    async def run(self, name: str, script: str) -> None:
+    async def at(self, name: str, script: str) -> None:
         """Runs a script at a machine."""
         await asyncio.to_thread(self.machines.run, name, script)
 
@@ -202,31 +202,31 @@ class Torture(unittest.IsolatedAsyncioTestCase):
                 os.kill(process, number)
 
     async def restart_broker(self, name: str) -> None:
-        await self.run(name, "systemctl stop rabbitmq-server; systemctl start rabbitmq-server")
+        await self.at(name, "systemctl stop rabbitmq-server; systemctl start rabbitmq-server")
 
     async def kill_broker(self, name: str) -> None:
         self.signal_broker(name, signal.SIGKILL)
         await asyncio.sleep(self.chance.uniform(0.5, 3.0))
-        await self.run(name, "systemctl start rabbitmq-server")
+        await self.at(name, "systemctl start rabbitmq-server")
 
     async def stop_broker(self, name: str) -> None:
         self.signal_broker(name, signal.SIGSTOP)
         await asyncio.sleep(self.chance.uniform(4.0, 14.0))
         self.signal_broker(name, signal.SIGCONT)
-        await self.run(name, "rabbitmqctl --timeout 300 await_startup")
+        await self.at(name, "rabbitmqctl --timeout 300 await_startup")
 
     async def part(self, name: str) -> None:
         self.machines.part(name)
         await asyncio.sleep(self.chance.uniform(8.0, 25.0))
         self.machines.join(name)
-        await self.run(name, "for _ in $(seq 60); do rabbitmqctl --timeout 300 await_startup && "
+        await self.at(name, "for _ in $(seq 60); do rabbitmqctl --timeout 300 await_startup && "
                              "exit; sleep 1; done; exit 1")
 
     async def fill_disk(self, name: str) -> None:
-        await self.run(name, "cd /var/lib/rabbitmq; free=$(df --output=avail -m . | tail -n 1); "
+        await self.at(name, "cd /var/lib/rabbitmq; free=$(df --output=avail -m . | tail -n 1); "
                              f"fallocate -l $((free - {LEFT}))M fill")
         await asyncio.sleep(14)
-        await self.run(name, "rm /var/lib/rabbitmq/fill; for _ in $(seq 60); do "
+        await self.at(name, "rm /var/lib/rabbitmq/fill; for _ in $(seq 60); do "
                              "rabbitmq-diagnostics check_local_alarms && exit; sleep 1; done; "
                              "exit 1")
 
