@@ -220,15 +220,15 @@ class Torture(unittest.IsolatedAsyncioTestCase):
         await asyncio.sleep(self.chance.uniform(8.0, 25.0))
         self.machines.join(name)
         await self.at(name, "for _ in $(seq 60); do rabbitmqctl --timeout 300 await_startup && "
-                             "exit; sleep 1; done; exit 1")
+                            "exit; sleep 1; done; exit 1")
 
     async def fill_disk(self, name: str) -> None:
         await self.at(name, "cd /var/lib/rabbitmq; free=$(df --output=avail -m . | tail -n 1); "
-                             f"fallocate -l $((free - {LEFT}))M fill")
+                            f"fallocate -l $((free - {LEFT}))M fill")
         await asyncio.sleep(14)
         await self.at(name, "rm /var/lib/rabbitmq/fill; for _ in $(seq 60); do "
-                             "rabbitmq-diagnostics check_local_alarms && exit; sleep 1; done; "
-                             "exit 1")
+                            "rabbitmq-diagnostics check_local_alarms && exit; sleep 1; done; "
+                            "exit 1")
 
     def of(self, name: str) -> MachineNode:
         """The node of a machine."""

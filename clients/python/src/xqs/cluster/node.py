@@ -44,6 +44,9 @@ COPIES, LATER = 30.0, 300.0
 """Seconds between two looks at how many brokers have a copy, while some have none, and later."""
 ENDING, DRAINING = 4.5, 2.0
 """Seconds for an end in order, and of these for what clients wait for."""
+COMING_UP, SHORT = 5.0, 0.02
+"""Seconds in which the server that is to take a snapshot may come as far as the others, and those
+between two looks."""
 READS_OF_ONE = 16
 """So many reads of one server wait for their replies where there is one; else one of each, so that
 a query that never ends holds no other."""
@@ -95,7 +98,7 @@ class Node:
         self.copies: dict[str, bool | None] = {}
         self.end = -1
         self.snapshot_time: float | None = None
-        self.is_caught_up = False
+        self.is_caught_up = self._is_stopping = False
         self.failed = asyncio.Event()
         self.status = 0
 
@@ -306,15 +309,31 @@ class Node:
         raise XqError("the log has not brought it back in 10 seconds: it may be skipped later")
 
     async def take_snapshot(self) -> str:
-        """Takes a snapshot, by the server that is furthest; what is to be said of it."""
+        """Takes a snapshot of all that is carried out so far, or later; what is to be said of it.
+
+        It is taken by a server that is not the first one, where there is another, once that has
+        come as far: who answers writes meanwhile is then never one that has to come up first.
+        """
         able = [it for it in self.followers if it.is_ready and not it.halted]
         if not able:
             raise XqError("no server of this node follows the log")
-        # (one that lags would hold itself up; one that is at a long query would wait for that)
-        furthest = max(able, key=lambda it: (it.state.place, -len(it.reading)))
-        said = await take_snapshot(furthest)
-        self._note_snapshot(furthest.state.place)
+        place = max(it.state.place for it in able)
+        chosen = self._for_snapshot(able)
+        for _ in range(round(COMING_UP / SHORT)):
+            if chosen.state.place >= place or self._is_stopping:
+                break
+            await asyncio.sleep(SHORT)
+        if chosen.state.place < place:
+            chosen = max(able, key=lambda it: it.state.place)
+        said = await take_snapshot(chosen)
+        self._note_snapshot(chosen.state.place)
         return said
+
+    @staticmethod
+    def _for_snapshot(able: Sequence[Follower]) -> Follower:
+        """The server for a snapshot: one at a query would have it wait for that."""
+        idle = [it for it in able if not it.reading] or able
+        return min(idle, key=lambda it: it.state.place)
 
     def _note_snapshot(self, place: int) -> None:
         self.snapshot_place = max(self.snapshot_place, place)
@@ -414,6 +433,7 @@ class Node:
             for follower in self.followers:
                 await stack.enter_async_context(follower.between)
             await cancelled(*self._tasks)
+            self._is_stopping = True
         await self._take_last_snapshot()
         await asyncio.gather(*map(self._end, self.followers))
 
