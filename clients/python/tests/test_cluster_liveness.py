@@ -8,8 +8,8 @@ from pathlib import Path
 from unittest import mock
 
 from tests.local_nodes import COUNT_UP, NodesTest
-from xqs.cluster import identity, snapshots
-from xqs.cluster.batches import decode
+from xqs.cluster import aside, identity, snapshots
+from xqs.cluster.batches import Batch, decode, encode
 from xqs.cluster.limits import NoAnswer, Pauses, within
 from xqs.cluster.log import Away
 
@@ -129,6 +129,28 @@ class Silence(NodesTest):
             node.link.is_stuck = False
             node.link.drop("planted")
             await asyncio.wait_for(client.store("c", value(2)), 20)
+
+
+class Aside(NodesTest):
+    """A server that stepped aside still hears the log."""
+
+    async def test_what_is_ahead_is_found_also_where_the_feed_dies_without_a_word(self) -> None:
+        link = self.log.link()
+        with mock.patch("xqs.cluster.aside.SILENT", 0.1), \
+                mock.patch("xqs.cluster.aside.AGAIN", 0.05):
+            link.is_stuck = True
+            waiting = asyncio.create_task(aside.entry_ahead(
+                link, -1, lambda entry: aside.skipped_place(entry) == 7))
+            await asyncio.sleep(0.3)
+            self.log.append(encode(Batch("a/1", 1, (b"N", aside.skip_entry(8)))))
+            self.log.append(encode(Batch("a/1", 3, (aside.skip_entry(7),))))
+            link.is_stuck = False
+            await asyncio.wait_for(waiting, 20)
+
+    def test_an_entry_that_skips_nothing_is_none(self) -> None:
+        for entry in (b"K", b"Kx", b"K-1", b"S7", b"K" + b"9" * 30):
+            self.assertIsNone(aside.skipped_place(entry), entry)
+        self.assertEqual(aside.skipped_place(aside.skip_entry(12032)), 12032)
 
 
 class Identity(NodesTest):

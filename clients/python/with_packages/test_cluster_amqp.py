@@ -106,6 +106,25 @@ class Channels(unittest.IsolatedAsyncioTestCase):
             self.assertIsNone(await asyncio.wait_for(self.inbox.get(), 5))
         await watch
 
+    async def test_a_link_goes_on_whatever_the_package_raises(self) -> None:
+
+        async def odd(broker: str) -> None:
+            raise ValueError("an odd frame")
+
+        async def note(connection: object) -> None:
+            raise AssertionError("nothing is opened")
+
+        link = Link(["amqp://127.0.0.1:1/", "amqp://127.0.0.1:2/"],
+                    Words("at", "lost {}", "none at"), self.said.append, note)
+        with mock.patch("xqs.cluster.amqp_link._connected", odd):
+            running = asyncio.create_task(link.run())
+            async with asyncio.timeout(20):
+                while len(self.said) < 2:
+                    await asyncio.sleep(0.02)
+        self.assertFalse(running.done())
+        running.cancel()
+        self.assertEqual(self.said, [f"none at 127.0.0.1:{it}: an odd frame" for it in (1, 2)])
+
     async def test_a_broker_that_takes_connections_and_says_nothing_is_left_for_the_next(
         self
     ) -> None:

@@ -82,9 +82,9 @@ class Link:
         for broker in itertools.cycle(self._brokers):
             try:
                 await self._connect(broker)
-            except Away as error:
+            except Exception as error:  # noqa: BLE001 (whatever it is, the next broker is tried)
                 if failed.get(broker) != str(error):
-                    self._say(f"{self._words.none} {shown(broker)}: {error}")
+                    self._say(f"{self._words.none} {shown(broker)}: {reason(error)}")
                 failed[broker] = str(error)
                 await pauses.pause()
                 continue

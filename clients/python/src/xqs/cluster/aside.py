@@ -18,6 +18,9 @@ SKIPPED = refusal("xqs:SKIPPED")
 """What a store or drop is answered that is not carried out."""
 LOOK = 1.0
 """Seconds between two looks for a later snapshot."""
+SILENT = 15.0
+"""Seconds without a message after which the log is asked anew; whoever stepped aside writes no
+marks, so that an idle log is silent too."""
 AGAIN, LONGEST_PAUSE = 0.5, 5.0
 _PLACE = re.compile(rb"[0-9]{1,18}")
 
@@ -40,11 +43,13 @@ async def entry_ahead(log: Log, offset: int, is_it: Callable[[bytes], bool]) -> 
     while True:
         try:
             async with aclosing(log.messages(offset)) as messages:
-                async for offset, message in messages:
+                while True:
+                    async with asyncio.timeout(SILENT):
+                        offset, message = await anext(messages)
                     pauses.begin_anew()
                     if any(map(is_it, _entries(message))):
                         return
-        except Away:
+        except (Away, TimeoutError):
             await pauses.pause()
 
 

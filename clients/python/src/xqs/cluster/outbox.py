@@ -6,7 +6,7 @@ import time
 
 from xqs.cluster.batches import MARK, Batch, EntryKind, changes, encode, fitting
 from xqs.cluster.limits import NoAnswer, within
-from xqs.cluster.log import Away, Log
+from xqs.cluster.log import Log
 from xqs.cluster.steps import passed
 from xqs.errors import XqError
 
@@ -167,7 +167,7 @@ class Outbox:
             passed("confirmed")
         except NoAnswer:
             self._log.drop_writing(f"no confirmation for {CONFIRMATION:g} seconds")
-        except Away:
+        except (XqError, OSError, RuntimeError):
             asyncio.get_running_loop().call_later(AGAIN, self._send_again_if_up)
         finally:
             self._free.release()
