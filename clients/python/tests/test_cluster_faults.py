@@ -274,6 +274,17 @@ class Held(NodesTest):
         with self.assertRaises(Refused):
             await held
 
+    async def test_it_is_ended_soon_where_its_client_has_gone(self) -> None:
+        with mock.patch("xqs.cluster.follower.GONE", 0.3):
+            node = await self.begun("a", seconds=600.0)
+            gone, client = await node.connect(), await self.client(node)
+            held = asyncio.create_task(gone.query(ENDLESS))
+            await asyncio.sleep(0.2)
+            held.cancel()
+            await gone.close()
+            await asyncio.wait_for(client.store("c", value(1)), 20)
+            await asyncio.gather(held, return_exceptions=True)
+
     async def test_a_node_ends_within_five_seconds_all_the_same(self) -> None:
         for servers in (1, 2):
             node = await self.begun(f"a{servers}", seconds=60.0, servers=servers)

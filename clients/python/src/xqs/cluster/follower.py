@@ -40,6 +40,9 @@ VAIN_TRIES = 3
 """So many servers in turn may end at one entry; then it is left to whoever looks at it."""
 
 
+GONE = 5.0
+"""Seconds for which a server may be at a query whose client has gone: to fill another one takes
+time too."""
 OWN_SECONDS = 120.0
 """Seconds for one request of a snapshot or of a restore, at least."""
 
@@ -300,6 +303,8 @@ class Follower:
                 return
             self._aside[front.place] = (f"the entry of place {front.place:,} held its server for "
                                         f"over {entry_seconds:g} seconds")
+        elif front in self.reading and worked > GONE and front.peer and front.peer.has_gone():
+            front.peer.cut()
         elif worked <= (seconds if front in self.reading else max(entry_seconds, OWN_SECONDS)):
             return
         self.backend.overdue = front
