@@ -160,9 +160,18 @@ class Questions(NodesTest):
 class Copies(NodesTest):
     """How many brokers have the log."""
 
+    async def test_a_copy_that_is_late_is_no_warning(self) -> None:
+        self.log.copies = {"m1:5671": True, "m2:5671": False}
+        with mock.patch("xqs.cluster.node.COPIES", 0.1), mock.patch("xqs.cluster.node.SOON", 0.3):
+            node = await self.begun("a")
+            await self.until(lambda: status_of(node.node).brokers == 2)
+            self.log.copies = {"m1:5671": True, "m2:5671": True}
+            await self.until(lambda: status_of(node.node).copies == 2)
+            self.assertFalse(node.has_said("no copy"), node.said)
+
     async def test_a_node_warns_until_all_have_a_copy(self) -> None:
         self.log.copies = {"m1:5671": True, "m2:5671": False, "m3:5671": None}
-        with mock.patch("xqs.cluster.node.COPIES", 0.1), mock.patch("xqs.cluster.node.LOOK", 0.1):
+        with mock.patch("xqs.cluster.node.COPIES", 0.1), mock.patch("xqs.cluster.node.SOON", 0.1):
             node = await self.begun("a")
             await self.until(lambda: node.has_said("1 of 3 brokers have no copy of the log: "
                                                    "m2:5671 (xqs node --copies)"))

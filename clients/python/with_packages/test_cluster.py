@@ -328,7 +328,7 @@ class Logs(ClusterTest):
         self.assertEqual(done.stdout.count("has no copy"), 2, done.stdout)
         self.assertIn(f"rabbitmq-streams add_replica {self.log}", done.stderr)
         node = self.begun("n1", first=1)
-        self.assertIn("this broker has no copy of the log", node.said())
+        self.assertIn("this broker has no copy of the log that runs", node.said())
         await asyncio.to_thread(node.wait_for, "2 of 3 brokers have no copy of the log", 90)
         async with await node.connect() as client:
             await client.store("c", value(1))

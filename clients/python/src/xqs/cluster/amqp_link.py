@@ -26,7 +26,7 @@ PAUSE, LONGEST_PAUSE = 0.2, 2.0
 """Seconds before the next broker is tried, where one was tried in vain."""
 OFFSET = "x-stream-offset"
 NO_STREAM = "what has the log's name is a queue and no stream: name another log"
-NO_COPY = "this broker has no copy of the log"
+NO_COPY = "this broker has no copy of the log that runs"
 _NO_REPLICA = "replica"
 """What the engine says where a broker has no copy."""
 

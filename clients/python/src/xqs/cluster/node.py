@@ -40,8 +40,9 @@ ENTRY_TIMES = 5
 to carry out what another one tried."""
 CLAIM = 0.5
 """Seconds in which a node of the same name may refuse this one, before it takes clients."""
-COPIES, LATER = 30.0, 300.0
-"""Seconds between two looks at how many brokers have a copy, while some have none, and later."""
+SOON, COPIES, LATER = 5.0, 30.0, 300.0
+"""Seconds between two looks at how many brokers have a copy: after one that found fewer, while some
+have none, and later."""
 ENDING, DRAINING = 4.5, 2.0
 """Seconds for an end in order, and of these for what clients wait for."""
 COMING_UP, SHORT = 5.0, 0.02
@@ -369,18 +370,24 @@ class Node:
                 follower.end_held(longest, ENTRY_TIMES * longest)
 
     async def _watch_copies(self) -> None:
-        """Looks at how many brokers have a copy of the log, and warns until all have."""
-        told = ""
+        """Looks at how many brokers have a copy of the log, and warns until all have.
+
+        A copy may begin late where its broker has: so one counts as missing once it was twice.
+        """
+        told, missed = set[str](), set[str]()
         while True:
-            if self.log.is_read:
-                self.copies = await self.log.copies()
-                without = [name for name, has in self.copies.items() if has is False]
-                if without and told != str(without):
-                    self._say(f"{len(without)} of {len(self.copies)} brokers have no copy of the "
-                              f"log: {', '.join(without)} (xqs node --copies)")
-                told = str(without)
+            if not self.log.is_read:
+                await asyncio.sleep(LOOK)
+                continue
+            self.copies = await self.log.copies()
+            before, missed = missed, {it for it, has in self.copies.items() if has is False}
+            lasting = before & missed
+            if lasting and lasting != told:
+                self._say(f"{len(lasting)} of {len(self.copies)} brokers have no copy of the log: "
+                          f"{', '.join(sorted(lasting))} (xqs node --copies)")
+            told = lasting
             is_whole = bool(self.copies) and all(self.copies.values())
-            await asyncio.sleep(LATER if is_whole else COPIES if self.copies else LOOK)
+            await asyncio.sleep(LATER if is_whole else SOON if missed - before else COPIES)
 
     async def _find_end(self) -> None:
         """Asks for the log's end once, as soon as this node has its first entry: how far it has to
