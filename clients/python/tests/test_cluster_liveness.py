@@ -79,8 +79,9 @@ class Silence(NodesTest):
     """A log that brings nothing, and does not say so."""
 
     async def test_a_dead_feed_is_begun_anew_each_time_and_says_so(self) -> None:
-        with mock.patch("xqs.cluster.feed.SILENT", 0.3), mock.patch("xqs.cluster.node.IDLE", 0.1), \
-                mock.patch("xqs.cluster.node.LOOK", 0.05):
+        with mock.patch("xqs.cluster.feed.SILENT", 0.3), \
+                mock.patch("xqs.cluster.watches.IDLE", 0.1), \
+                mock.patch("xqs.cluster.watches.LOOK", 0.05):
             node = await self.begun("a", seconds=30)
             client = await self.client(node)
             await client.store("c", value(1))
@@ -99,8 +100,9 @@ class Silence(NodesTest):
         self.assertTrue(node.has_said("a: follows the log again, after"), node.said)
 
     async def test_each_of_several_servers_follows_again(self) -> None:
-        with mock.patch("xqs.cluster.feed.SILENT", 0.3), mock.patch("xqs.cluster.node.IDLE", 0.1), \
-                mock.patch("xqs.cluster.node.LOOK", 0.05):
+        with mock.patch("xqs.cluster.feed.SILENT", 0.3), \
+                mock.patch("xqs.cluster.watches.IDLE", 0.1), \
+                mock.patch("xqs.cluster.watches.LOOK", 0.05):
             node = await self.begun("a", servers=2)
             client = await self.client(node)
             node.link.is_stuck = True

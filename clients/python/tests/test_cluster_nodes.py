@@ -260,7 +260,7 @@ class Beginnings(NodesTest):
     async def test_servers_are_renewed_while_stores_come(self) -> None:
         with mock.patch("xqs.cluster.upkeep.MEMORY_FRAMES", 40), \
                 mock.patch("xqs.cluster.upkeep.FILE_FRAMES", 40), \
-                mock.patch("xqs.cluster.node.LOOK", 0.01):
+                mock.patch("xqs.cluster.watches.LOOK", 0.01):
             nodes = [await self.begun("a"), await self.begun("b", file=self.folder / "x.db")]
             first = [node.node.followers[0].backend for node in nodes]
             clients = [await self.client(node) for node in nodes]

@@ -10,7 +10,7 @@ from pathlib import Path
 from unittest import mock
 
 from tests.local_nodes import COUNT_UP, LocalNode, NodesTest, planted
-from xqs.cluster import control, health, operating
+from xqs.cluster import control, health, operating, watches
 from xqs.cluster.main import _actions, _parser, main
 from xqs.cluster.status import STATES, Status, status_of
 from xqs.errors import XqError
@@ -162,7 +162,8 @@ class Copies(NodesTest):
 
     async def test_a_copy_that_is_late_is_no_warning(self) -> None:
         self.log.copies = {"m1:5671": True, "m2:5671": False}
-        with mock.patch("xqs.cluster.node.COPIES", 0.1), mock.patch("xqs.cluster.node.SOON", 0.3):
+        with mock.patch("xqs.cluster.watches.COPIES", 0.1), \
+                mock.patch("xqs.cluster.watches.SOON", 0.3):
             node = await self.begun("a")
             await self.until(lambda: status_of(node.node).brokers == 2)
             self.log.copies = {"m1:5671": True, "m2:5671": True}
@@ -171,7 +172,8 @@ class Copies(NodesTest):
 
     async def test_a_node_warns_until_all_have_a_copy(self) -> None:
         self.log.copies = {"m1:5671": True, "m2:5671": False, "m3:5671": None}
-        with mock.patch("xqs.cluster.node.COPIES", 0.1), mock.patch("xqs.cluster.node.SOON", 0.1):
+        with mock.patch("xqs.cluster.watches.COPIES", 0.1), \
+                mock.patch("xqs.cluster.watches.SOON", 0.1):
             node = await self.begun("a")
             await self.until(lambda: node.has_said("1 of 3 brokers have no copy of the log: "
                                                    "m2:5671 (xqs node --copies)"))
@@ -204,8 +206,7 @@ class Snapshots(NodesTest):
         for _ in range(45):
             await client.store("total", COUNT_UP)
         await self.until(lambda: all(self.places(it) for it in "ab"))
-        shifts = {it.node._shift for it in nodes}
-        self.assertEqual(len(shifts), 2)
+        self.assertNotEqual(*(watches.shift_of(name, 20) for name in "ab"))
 
     def places(self, name: str) -> list[Path]:
         """The snapshots of a node."""

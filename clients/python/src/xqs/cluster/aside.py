@@ -2,17 +2,22 @@
 
 import asyncio
 import re
-from collections.abc import Callable, Sequence
-from contextlib import aclosing
+from collections.abc import Callable, Coroutine, Iterator, Sequence
+from contextlib import aclosing, suppress
 from pathlib import Path
+from typing import TYPE_CHECKING, Any
 
 from xqs.cluster import snapshots
+from xqs.cluster.agreement import Report, Tied
 from xqs.cluster.batches import EntryKind, NoBatch, decode
 from xqs.cluster.limits import Pauses
 from xqs.cluster.log import Away, Log
 from xqs.cluster.snapshots import NoSnapshot, Snapshot
 from xqs.cluster.state import State
 from xqs.mux_peer import refusal
+
+if TYPE_CHECKING:
+    from xqs.cluster.follower import Follower
 
 SKIPPED = refusal("xqs:SKIPPED")
 """What a store or drop is answered that is not carried out."""
@@ -35,6 +40,47 @@ def skipped_place(entry: bytes) -> int | None:
     if entry[:1] != EntryKind.SKIP or not _PLACE.fullmatch(entry[1:]):
         return None
     return int(entry[1:])
+
+
+def ways_back(follower: "Follower") -> Iterator[Coroutine[Any, Any, str]]:
+    """What may have a server that halted go on; each says what it was.
+
+    The one that waits for a snapshot ends the server when it is there. Raises Differs where most
+    nodes say that this server is wrong.
+    """
+    if follower.may_return:
+        yield _replaced(follower)
+        yield _skipped(follower, follower.state.place + 1)
+    if follower.tied_at:
+        yield _settled(follower, follower.tied_at)
+
+
+async def _replaced(follower: "Follower") -> str:
+    found = await later_snapshot(follower.given.snapshots, follower.state.offset, follower.fits,
+                                 follower.say)
+    follower.backend.kill()
+    await follower.backend.ended.wait()
+    return f"there is a later snapshot, {found.path}"
+
+
+async def _skipped(follower: "Follower", place: int) -> str:
+    await entry_ahead(follower.log, follower.state.offset,
+                      lambda entry: skipped_place(entry) == place)
+    follower.skips.add(place)
+    return f"place {place:,} is skipped"
+
+
+async def _settled(follower: "Follower", place: int) -> str:
+    agreement = follower.agreement
+
+    def is_settled(entry: bytes) -> bool:
+        if report := Report.of(entry):
+            with suppress(Tied):
+                agreement.hear(report)
+        return not agreement.is_tied(place)
+
+    await entry_ahead(follower.log, follower.state.offset, is_settled)
+    return f"most nodes have its sum at place {place:,}"
 
 
 async def entry_ahead(log: Log, offset: int, is_it: Callable[[bytes], bool]) -> None:

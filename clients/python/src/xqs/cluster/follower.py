@@ -1,8 +1,8 @@
 """One server that carries out the log: where it begins, each message, where it stops."""
 
 import asyncio
-from collections.abc import Callable, Coroutine, Iterator, Sequence
-from contextlib import aclosing, contextmanager, suppress
+from collections.abc import Callable, Iterator, Sequence
+from contextlib import aclosing, contextmanager
 from dataclasses import dataclass
 from pathlib import Path
 from typing import TYPE_CHECKING
@@ -83,28 +83,28 @@ class Follower:
 
     `carried` is the place of the last entry that the server has answered, `line` that of the last
     one in its line, and `promised` the line at which the last read was sent that it has not
-    answered yet. A server that halted and `may_return` waits for what lets it go on.
+    answered yet. A server that halted and `may_return`, or was tied with others at the place
+    `tied_at`, waits for what lets it go on; `skips` are the places that it is not to carry out.
     """
 
     def __init__(self, given: Given, log: Log, outbox: Outbox, reads: "Reads",
                  say: Callable[[str], None]) -> None:
         self.given = given
-        self._log = log
+        self.log = log
         self._outbox = outbox
         self._reads = reads
-        self._say = say
+        self.say = say
         self.state = self._nothing()
         self.between = asyncio.Lock()
         self.reading: set[Request] = set()
         self.halted = ""
-        self.may_return = False
+        self.may_return, self.tied_at = False, 0
         self.is_ready = self.is_ended = self.is_done = self.is_reporting = False
         self.waits_since: float | None = None
         self.retired: Backend | None = None
         self.carried = self.line = self.promised = 0
         self.skips: set[int] = set()
         self.names: Names | None = None
-        self._tied_at = 0
         self._reported: set[int] = set()
         self._aside: dict[int, str] = {}
         self._backend: Backend | None = None
@@ -136,8 +136,8 @@ class Follower:
             if snapshot:
                 found = snapshot
                 count = await with_client(self.backend, lambda it: snapshots.restore(it, found))
-                self._say(f"{self.name} begins from {found.path}: {count} documents of "
-                          f"{found.state}")
+                self.say(f"{self.name} begins from {found.path}: {count} documents of "
+                         f"{found.state}")
             self.state = self._checked(
                 state or (snapshot.state if snapshot else self._nothing()))
         except BaseException:
@@ -159,25 +159,25 @@ class Follower:
         self._reads.changed()
 
     def _nothing(self) -> State:
-        return State(self._log.name, self.given.program)
+        return State(self.log.name, self.given.program)
 
     async def _newest(self) -> Snapshot | None:
         folder = self.given.snapshots
         if folder is None:
             return None
-        return await asyncio.to_thread(snapshots.newest, folder, self._say, self._fits)
+        return await asyncio.to_thread(snapshots.newest, folder, self.say, self.fits)
 
-    def _fits(self, state: State) -> bool:
+    def fits(self, state: State) -> bool:
         """Whether a state has skipped all places up to it that are to be skipped."""
         return all(it > state.place or it in state.skips for it in self.skips)
 
     def _checked(self, state: State) -> State:
         """A state to begin from. Another program may go on from there, where all nodes change."""
-        if state.log != self._log.name:
-            raise CannotFollow(f"the documents are of the log {state.log}, not {self._log.name}")
+        if state.log != self.log.name:
+            raise CannotFollow(f"the documents are of the log {state.log}, not {self.log.name}")
         if state.program != self.given.program:
-            self._say(f"{self.name}: the program {self.given.program} goes on at {state}, where "
-                      f"{state.program} came to")
+            self.say(f"{self.name}: the program {self.given.program} goes on at {state}, where "
+                     f"{state.program} came to")
             state.program, state.reports = self.given.program, {}
         return state
 
@@ -199,7 +199,7 @@ class Follower:
                 self.halted = str(error)
                 raise
             except GoBack as error:
-                self._say(f"{self.name}: {error}")
+                self.say(f"{self.name}: {error}")
                 self.backend.kill()
                 await self.backend.ended.wait()
             except ServerEnded:
@@ -226,19 +226,18 @@ class Follower:
 
     async def rest(self) -> bool:
         """Waits until the server that halted can go on; False once it has ended, and can't."""
-        while True:
-            ways = [asyncio.create_task(it) for it in self._ways_back()]
-            ended = asyncio.create_task(self.backend.ended.wait())
-            try:
-                await asyncio.wait((*ways, ended), return_when=asyncio.FIRST_COMPLETED)
-                back = [it.result() for it in ways if it.done()]
-            finally:
-                await cancelled(*ways, ended)
-            if back or self.may_return:
-                await self._go_on(back[0] if back else "its server has ended")
-                return True
+        ways = [asyncio.create_task(it) for it in aside.ways_back(self)]
+        ended = asyncio.create_task(self.backend.ended.wait())
+        try:
+            await asyncio.wait((*ways, ended), return_when=asyncio.FIRST_COMPLETED)
+            back = [it.result() for it in ways if it.done()]
+        finally:
+            await cancelled(*ways, ended)
+        if not back and not self.may_return:
             await self.give_up()
             return False
+        await self._go_on(back[0] if back else "its server has ended")
+        return True
 
     async def give_up(self) -> None:
         """Ends the server for good; its reads go to others."""
@@ -249,46 +248,13 @@ class Follower:
             self._settle_in_flight()
         self._reads.changed()
 
-    def _ways_back(self) -> Iterator[Coroutine[None, None, str]]:
-        """What may have the server go on; each says what it was."""
-        if self.may_return:
-            yield self._later_snapshot()
-            yield self._skipped()
-        if self._tied_at:
-            yield self._settled(self._tied_at)
-
-    async def _later_snapshot(self) -> str:
-        found = await aside.later_snapshot(self.given.snapshots, self.state.offset, self._fits,
-                                           self._say)
-        self.backend.kill()
-        await self.backend.ended.wait()
-        return f"there is a later snapshot, {found.path}"
-
-    async def _skipped(self) -> str:
-        place = self.state.place + 1
-        await aside.entry_ahead(self._log, self.state.offset,
-                                lambda entry: aside.skipped_place(entry) == place)
-        self.skips.add(place)
-        return f"place {place:,} is skipped"
-
-    async def _settled(self, place: int) -> str:
-
-        def is_settled(entry: bytes) -> bool:
-            if report := Report.of(entry):
-                with suppress(Tied):
-                    self.agreement.hear(report)
-            return not self.agreement.is_tied(place)
-
-        await aside.entry_ahead(self._log, self.state.offset, is_settled)
-        return f"most nodes have its sum at place {place:,}"
-
     async def _go_on(self, why: str) -> None:
         """Follows the log again, with the server that runs or another one."""
         async with self.between:
             if self.backend.ended.is_set():
                 await self._begin_again()
-            self._say(f"{self.name} follows the log again, from {self.state}: {why}")
-            self.halted, self.may_return, self._tied_at = "", False, 0
+            self.say(f"{self.name} follows the log again, from {self.state}: {why}")
+            self.halted, self.may_return, self.tied_at = "", False, 0
         self._reads.changed()
 
     def end_held(self, seconds: float, entry_seconds: float) -> None:
@@ -314,21 +280,21 @@ class Follower:
         """Notes why the server no longer follows the log, and says what may have it go on."""
         self.halted = why = str(error)
         self.may_return = isinstance(error, Halted)
-        self._tied_at = self.agreement.tied_at if isinstance(error, Tied) else 0
+        self.tied_at = self.agreement.tied_at if isinstance(error, Tied) else 0
         place = self.state.place + 1
         hint = ""
         if self.may_return:
             hint = (f"; it goes on from a later snapshot of another node, once that is in its "
                     f"folder, or where all nodes skip the entry (xqs node --skip {place})")
-        self._say(f"{self.name} steps aside, and no longer follows the log, at {self.state}: "
-                  f"{why}; reads are answered with the documents of that place{hint}")
+        self.say(f"{self.name} steps aside, and no longer follows the log, at {self.state}: "
+                 f"{why}; reads are answered with the documents of that place{hint}")
         self._reads.changed()
 
     async def _begin_again(self) -> None:
         """Starts a server in the place of one that has ended, from the newest snapshot."""
         self.is_ready = False
-        self._say(f"{self.name}: the server is started again ({self.backend.status()}, at "
-                  f"{self.state})")
+        self.say(f"{self.name}: the server is started again ({self.backend.status()}, at "
+                 f"{self.state})")
         self._settle_in_flight()
         for number, delay in enumerate(START_DELAYS):
             await asyncio.sleep(delay)
@@ -338,7 +304,7 @@ class Follower:
             except (StartFailed, Closed, Wanting, OSError) as error:
                 if number == len(START_DELAYS) - 1:
                     raise
-                self._say(str(error))
+                self.say(str(error))
 
     def _settle_in_flight(self) -> None:
         """Settles what the server that ended had: each entry is carried out anew by the next one;
@@ -396,10 +362,10 @@ class Follower:
             self._wait_begins()
 
     async def _check_gap(self, offset: int) -> None:
-        first, _ = await within(PATIENCE, self._log.first_message())
+        first, _ = await within(PATIENCE, self.log.first_message())
         if first > self.state.offset + 1:
             raise CannotFollow(
-                f"the log {self._log.name} begins at offset {first}, and the documents are of "
+                f"the log {self.log.name} begins at offset {first}, and the documents are of "
                 f"{self.state}: what lies between is no longer there, so begin from a later "
                 "snapshot, which another node has")
 
@@ -413,7 +379,7 @@ class Follower:
         try:
             batch = decode(message)
         except NoBatch as error:
-            self._say(f"{self.name}: {error}, at offset {offset}: it is left out")
+            self.say(f"{self.name}: {error}, at offset {offset}: it is left out")
             self._note_taken(offset, message)
             return
         passed("decoded")
@@ -512,7 +478,7 @@ class Follower:
     def _hear_report(self, report: Report) -> None:
         try:
             if said := self.agreement.hear(report):
-                self._say(said)
+                self.say(said)
         finally:
             # (two that differ wait for what a third one says, also where it comes later)
             if self.agreement.is_disputed(report.place):

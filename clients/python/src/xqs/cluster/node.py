@@ -2,7 +2,6 @@
 
 import asyncio
 import contextlib
-import hashlib
 import os
 import time
 import weakref
@@ -11,38 +10,23 @@ from dataclasses import dataclass
 from functools import partial
 from pathlib import Path
 
-from xqs.cluster import aside, identity, trials
+from xqs.cluster import aside, identity, trials, watches
 from xqs.cluster.agreement import Differs
 from xqs.cluster.batches import EntryKind
 from xqs.cluster.follower import Ended, Follower, Given
-from xqs.cluster.identity import PATIENCE
-from xqs.cluster.limits import within
-from xqs.cluster.log import Away, Log
+from xqs.cluster.log import Log
 from xqs.cluster.names import Names
 from xqs.cluster.outbox import Outbox, Pending, Unknown
 from xqs.cluster.reads import WANTING_STORE, Reads
 from xqs.cluster.store_file import StoreFile
-from xqs.cluster.upkeep import renew, take_snapshot, wants_renewal
+from xqs.cluster.upkeep import take_snapshot
 from xqs.errors import XqError
 from xqs.mux_clients import Clients, Settings
 from xqs.mux_peer import Peer, Request
 from xqs.waiting import cancelled
 
-IDLE, BEAT = 3.0, 5.0
-"""Seconds without a message of the log after which a mark is written, to see that it comes; and in
-any case, to see that it comes soon."""
-LOOK = 0.5
-"""Seconds between two looks at what is due."""
-HELD = 0.25
-"""Seconds between two looks whether a request holds a server for too long."""
-ENTRY_TIMES = 5
-"""So many times as long as a client's request an entry of the log may take: a slower machine has
-to carry out what another one tried."""
 CLAIM = 0.5
 """Seconds in which a node of the same name may refuse this one, before it takes clients."""
-SOON, COPIES, LATER = 5.0, 30.0, 300.0
-"""Seconds between two looks at how many brokers have a copy: after one that found fewer, while some
-have none, and later."""
 ENDING, DRAINING = 4.5, 2.0
 """Seconds for an end in order, and of these for what clients wait for."""
 COMING_UP, SHORT = 5.0, 0.02
@@ -83,7 +67,7 @@ class Node:
                  say: Callable[[str], None]) -> None:
         self.options = options
         self.log = log
-        self._say = say
+        self.say = say
         self.outbox = Outbox(f"{options.name}/{os.urandom(6).hex()}", log, options.seconds)
         self.reads = Reads(READS_OF_ONE if options.servers == 1 else 1)
         self.followers = [self._follower(number) for number in range(options.servers)]
@@ -93,8 +77,6 @@ class Node:
         self._writes: weakref.WeakKeyDictionary[Peer, Pending] = weakref.WeakKeyDictionary()
         self._tasks: list[asyncio.Task[None]] = []
         self.snapshot_place = 0
-        self._shift = int.from_bytes(hashlib.sha256(options.name.encode()).digest()[:8]) % (
-            options.every)
         self.names = Names(self.outbox, self._refuse_name)
         self.copies: dict[str, bool | None] = {}
         self.end = -1
@@ -114,7 +96,7 @@ class Node:
             file = StoreFile(path.absolute())
         given = Given(name, options.name, command, options.program, file, options.snapshots,
                       options.memory)
-        return Follower(given, self.log, self.outbox, self.reads, self._say)
+        return Follower(given, self.log, self.outbox, self.reads, self.say)
 
     async def start(self) -> None:
         """Starts the servers, and follows the log up to what it held as this was called.
@@ -129,8 +111,7 @@ class Node:
         for follower in self.followers:
             follower.names = self.names
         self.names.greet()
-        work = [self.outbox.run(), self._watch_silence(), self._watch_due(), self._watch_held(),
-                self._watch_copies(), self._find_end(), self._clients.watch_unread()]
+        work = [self.outbox.run(), *watches.of(self), self._clients.watch_unread()]
         self._tasks = [asyncio.create_task(it) for it in work]
         self._tasks += [asyncio.create_task(self._run(it)) for it in self.followers]
         for task in self._tasks:
@@ -154,10 +135,10 @@ class Node:
                 with contextlib.suppress(TimeoutError):
                     await asyncio.wait_for(self.failed.wait(), CLAIM)
                 return
-            if not self._follows():
+            if not self.follows():
                 return
             if not self.failed.is_set():
-                self._say("waits for the log")
+                self.say("waits for the log")
 
     def _refuse_name(self) -> None:
         self._fail(f"another node of the name {self.options.name} follows this log: give each a "
@@ -193,37 +174,38 @@ class Node:
         if all(it.is_ended for it in self.followers):
             self._fail(f"{self.options.name} {why}", 1)
         else:
-            self._say(f"{follower.name} {why}")
+            self.say(f"{follower.name} {why}")
 
     def _note_halt(self, follower: Follower) -> None:
         """A server halted: where it was the last one, nobody's write is answered any more."""
-        if not self._follows():
+        if not self.follows():
             self.outbox.give_up_all()
             if not self.is_caught_up and not follower.may_return:
                 self._fail("the node can't begin", 1)
 
     def _fail(self, why: str, status: int) -> None:
         if not self.failed.is_set():
-            self._say(why)
+            self.say(why)
             self.status = status
             self.failed.set()
             self.outbox.give_up_all()
 
     async def _end_for_all(self, follower: Follower) -> None:
         """The log says that all nodes end here: the first server takes a snapshot of it."""
-        self._say(f"{follower.name}: all nodes end here, at {follower.state}")
+        self.say(f"{follower.name}: all nodes end here, at {follower.state}")
         is_first = not any(it.is_done for it in self.followers)
         follower.is_done = True
         try:
             if self.options.snapshots and is_first:
-                self._say(await take_snapshot(follower))
+                self.say(await take_snapshot(follower))
                 self._note_snapshot(follower.state.place)
         except (XqError, OSError, ValueError) as error:
-            self._say(f"no snapshot: {error}")
+            self.say(f"no snapshot: {error}")
         if all(it.is_done or it.halted for it in self.followers):
             self._fail("the node ends where all nodes do", 0)
 
-    def _follows(self) -> bool:
+    def follows(self) -> bool:
+        """Whether a server of this node still follows the log."""
         return any(not it.halted and not it.is_ended for it in self.followers)
 
     async def _handle(self, request: Request) -> None:
@@ -244,7 +226,7 @@ class Node:
         pending.done.add_done_callback(partial(self._written, request))
 
     def _is_cut_off(self) -> bool:
-        return not self._follows() or self.failed.is_set()
+        return not self.follows() or self.failed.is_set()
 
     async def _tried(self, request: Request) -> bytes | None:
         """Asks the query of a store as a query first, once the client's own writes before it are
@@ -283,7 +265,7 @@ class Node:
 
     async def _has_all(self) -> bool:
         """Waits until a server has carried out all that the log holds now; whether one could."""
-        if not self._follows():
+        if not self.follows():
             return False
         try:
             await asyncio.shield(self.outbox.mark().done)
@@ -337,78 +319,9 @@ class Node:
         return min(idle, key=lambda it: it.state.place)
 
     def _note_snapshot(self, place: int) -> None:
+        """Notes a snapshot of the place."""
         self.snapshot_place = max(self.snapshot_place, place)
         self.snapshot_time = time.time()
-
-    async def _watch_due(self) -> None:
-        """Takes snapshots, and starts servers again before their limit of frames."""
-        while True:
-            await asyncio.sleep(LOOK)
-            try:
-                if due := next(filter(wants_renewal, self.followers), None):
-                    await renew(due)
-                if self._is_snapshot_due():
-                    self._say(await self.take_snapshot())
-            except (XqError, OSError, ValueError) as error:
-                self._say(f"no snapshot: {error}")
-                self.snapshot_place = max(it.state.place for it in self.followers)
-
-    def _is_snapshot_due(self) -> bool:
-        """Whether one is due: at places that are others for each name, so that not all nodes take
-        theirs at once."""
-        if not self.options.snapshots or not self._follows():
-            return False
-        place, every = max(it.state.place for it in self.followers), self.options.every
-        return (place + self._shift) // every > (self.snapshot_place + self._shift) // every
-
-    async def _watch_held(self) -> None:
-        """Ends a server that a read holds for too long; one that an entry holds steps aside."""
-        longest = self.options.seconds
-        while True:
-            await asyncio.sleep(min(HELD, longest / 4))
-            for follower in self.followers:
-                follower.end_held(longest, ENTRY_TIMES * longest)
-
-    async def _watch_copies(self) -> None:
-        """Looks at how many brokers have a copy of the log, and warns until all have.
-
-        A copy may begin late where its broker has: so one counts as missing once it was twice.
-        """
-        told, missed = set[str](), set[str]()
-        while True:
-            if not self.log.is_read:
-                await asyncio.sleep(LOOK)
-                continue
-            self.copies = await self.log.copies()
-            before, missed = missed, {it for it, has in self.copies.items() if has is False}
-            lasting = before & missed
-            if lasting and lasting != told:
-                self._say(f"{len(lasting)} of {len(self.copies)} brokers have no copy of the log: "
-                          f"{', '.join(sorted(lasting))} (xqs node --copies)")
-            told = lasting
-            is_whole = bool(self.copies) and all(self.copies.values())
-            await asyncio.sleep(LATER if is_whole else SOON if missed - before else COPIES)
-
-    async def _find_end(self) -> None:
-        """Asks for the log's end once, as soon as this node has its first entry: how far it has to
-        go where it catches up."""
-        while not any(it.state.identity for it in self.followers):
-            await asyncio.sleep(LOOK)
-        with contextlib.suppress(Away):
-            self.end = await within(PATIENCE, self.log.end_offset())
-
-    async def _watch_silence(self) -> None:
-        """Writes a mark where nothing comes: followers ask anew where that does not come either."""
-        loop = asyncio.get_running_loop()
-        marked = 0.0
-        while True:
-            await asyncio.sleep(LOOK)
-            now = loop.time()
-            waited = [now - it.waits_since for it in self.followers if it.waits_since is not None]
-            is_due = now - marked >= (IDLE if waited and max(waited) >= IDLE else BEAT)
-            if self.log.is_up and is_due and not len(self.outbox) and self._follows():
-                self.outbox.mark()
-                marked = now
 
     async def stop(self) -> None:
         """Answers the frames that were read, ends the clients and then the servers in order.
@@ -421,7 +334,7 @@ class Node:
             async with asyncio.timeout_at(until):
                 await self._end_in_order()
         except TimeoutError:
-            self._say("the servers are ended at once, since one is held")
+            self.say("the servers are ended at once, since one is held")
             await self.abandon()
 
     async def _drain(self) -> None:
@@ -429,7 +342,7 @@ class Node:
         draining = asyncio.create_task(self._clients.drain())
         await asyncio.wait((draining,), timeout=DRAINING)
         if not draining.done():
-            self._say(f"clients still wait after {DRAINING:g} seconds: their streams are ended")
+            self.say(f"clients still wait after {DRAINING:g} seconds: their streams are ended")
             self._clients.cut_all()
             await asyncio.wait((draining,), timeout=DRAINING / 4)
         await cancelled(draining)
@@ -450,16 +363,16 @@ class Node:
         try:
             await follower.end()
         except (XqError, OSError, ValueError) as error:
-            self._say(f"{follower.name}: {error}")
+            self.say(f"{follower.name}: {error}")
 
     async def _take_last_snapshot(self) -> None:
         """At an end in order, where the documents are in memory and changed since the last one."""
         place = max(it.state.place for it in self.followers)
         if self.options.snapshots and not self.options.file and place > self.snapshot_place:
             try:
-                self._say(await self.take_snapshot())
+                self.say(await self.take_snapshot())
             except (XqError, OSError, ValueError) as error:
-                self._say(f"no snapshot: {error}")
+                self.say(f"no snapshot: {error}")
 
     async def abandon_when(self, event: asyncio.Event) -> None:
         """Waits for an event, and then ends the servers and the clients at once."""
