@@ -29,7 +29,7 @@ except ImportError as error:
     raise unittest.SkipTest("aio_pika is not installed") from error
 
 from brokers import Brokers, missing
-from clusters import BEGINNING, SHARED, RunningNode, Writer, all_taken, value
+from clusters import BEGINNING, SHARED, RunningNode, Watcher, Writer, all_taken, value
 from tests.histories import History, faults
 from tests.local_nodes import planted
 from tests.serving import SOURCES, Connection, RunningMux, store_body
@@ -133,10 +133,14 @@ class Trial(ClusterTest):
         for writer in writers:
             writer.others = writers
         until = time.monotonic() + SECONDS
+        watchers = [Watcher(node) for node in self.nodes]
         work = [asyncio.create_task(it.work(until, it.name.startswith("n2"))) for it in writers]
+        work += [asyncio.create_task(it.work(until)) for it in watchers]
         done = await self.trouble(until)
         await asyncio.gather(*work)
-        print(f"{SECONDS:g} s, seed {SEED}: {await self.check(self.nodes, writers)}; {done}")
+        self.assertEqual([it.faults for it in watchers], [[] for _ in watchers])
+        print(f"{SECONDS:g} s, seed {SEED}: {await self.check(self.nodes, writers)}; "
+              f"{sum(it.count for it in watchers):,} reads in turn; {done}")
 
     async def trouble(self, until: float) -> str:
         """One fault after the other: each broker killed and stopped in turn, nodes and their

@@ -24,7 +24,7 @@ except ImportError as error:
     raise unittest.SkipTest("aio_pika is not installed") from error
 
 from brokers import missing as missing_brokers
-from clusters import SHARED, RunningNode, Writer, all_taken, follows_again
+from clusters import SHARED, RunningNode, Watcher, Writer, all_taken, follows_again
 from machines import Machines
 from machines import missing as missing_machines
 from tests.histories import History, faults
@@ -151,8 +151,10 @@ class Torture(unittest.IsolatedAsyncioTestCase):
         for writer in writers:
             writer.others = writers
         until = time.monotonic() + SECONDS
+        watchers = [Watcher(node) for node in self.nodes]
         work = [asyncio.create_task(it.work(until + 1e6, it.name.startswith("m2")))
                 for it in writers]
+        work += [asyncio.create_task(it.work(until + 1e6)) for it in watchers]
         for fault, number in self.plan():
             if time.monotonic() > until:
                 break
@@ -160,7 +162,7 @@ class Torture(unittest.IsolatedAsyncioTestCase):
         for task in work:
             task.cancel()
         await asyncio.gather(*work, return_exceptions=True)
-        self.findings += [fault for it in writers for fault in it.faults]
+        self.findings += [fault for it in [*writers, *watchers] for fault in it.faults]
         print(await self.judged(), flush=True)
         self.assertEqual(self.findings, [])
 
