@@ -133,6 +133,29 @@ class Silence(NodesTest):
             await asyncio.wait_for(client.store("c", value(2)), 20)
 
 
+class Gaps(NodesTest):
+    """A log that no longer has what comes next."""
+
+    async def test_a_gap_that_cannot_be_judged_now_is_judged_again(self) -> None:
+        node = await self.begun("a")
+        for number in range(12):
+            await (await self.client(node)).store(f"c{number}", value(number))
+        self.log.trim(9)
+        late = self.made("b")
+        real, failures = late.link.first_message, [Away("it is down"), Away("it is down")]
+
+        async def first_message() -> tuple[int, bytes]:
+            if failures:
+                raise failures.pop()
+            return await real()
+
+        with mock.patch.object(late.link, "first_message", first_message):
+            await late.start()
+        self.assertEqual(failures, [])
+        self.assertTrue(late.has_said("b: it is down: the log is followed anew from place 0"))
+        self.assertTrue(late.has_said("the log log begins at offset 9"), late.said)
+
+
 class Aside(NodesTest):
     """A server that stepped aside still hears the log."""
 

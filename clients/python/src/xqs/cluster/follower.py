@@ -15,7 +15,7 @@ from xqs.cluster.batches import Batch, EntryKind, NoBatch, changes, decode
 from xqs.cluster.feed import Feed, digest_of
 from xqs.cluster.identity import PATIENCE
 from xqs.cluster.limits import within
-from xqs.cluster.log import CannotFollow, Log
+from xqs.cluster.log import Away, CannotFollow, Log
 from xqs.cluster.outbox import Outbox
 from xqs.cluster.names import Names
 from xqs.cluster.serving import Asked, ServerEnded, ask, give, with_client
@@ -339,6 +339,15 @@ class Follower:
 
     async def _follow(self) -> None:
         """Takes each message of the log as it comes, until it raises what ends that."""
+        while True:
+            try:
+                await self._take_all()
+            except Away as error:
+                # (a gap could not be judged, since the log does not answer now)
+                self.say(f"{self.name}: {error}: the log is followed anew from {self.state}")
+                await asyncio.sleep(AGAIN)
+
+    async def _take_all(self) -> None:
         self._wait_begins()
         async with aclosing(self._feed.messages(self.state)) as messages:
             async for offset, message in messages:
