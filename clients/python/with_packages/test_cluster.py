@@ -215,7 +215,9 @@ class Steps(ClusterTest):
         writers = [Writer(node, number, self.history) for node in nodes for number in range(2)]
         for number, step in enumerate(steps):
             with self.subTest(step=step):
-                nodes[1].begin(f"{step}:{3 + number % 4}")
+                # (as it begins it takes some messages of its own)
+                count = (3 if step in SNAPSHOT_STEPS else 12) + number % 4
+                nodes[1].begin(f"{step}:{count}")
                 until = time.monotonic() + 60
                 work = [asyncio.create_task(it.work(until)) for it in writers]
                 await self.pass_step(nodes[1], step)
