@@ -125,6 +125,33 @@ class Channels(unittest.IsolatedAsyncioTestCase):
         running.cancel()
         self.assertEqual(self.said, [f"none at 127.0.0.1:{it}: an odd frame" for it in (1, 2)])
 
+    async def test_what_is_lost_for_one_reason_again_and_again_is_told_once(self) -> None:
+        connections: list[object] = []
+
+        async def made(broker: str) -> Any:
+            connection = mock.Mock()
+            connection.close = mock.AsyncMock()
+            connections.append(connection)
+            return connection
+
+        async def note(connection: object) -> None: ...
+
+        link = Link(["amqp://m1/", "amqp://m2/"], Words("at", "{} is lost", "none at"),
+                    self.said.append, note)
+        with mock.patch("xqs.cluster.amqp_link._connected", made):
+            running = asyncio.create_task(link.run())
+            for turn in range(5):
+                async with asyncio.timeout(20):
+                    while not link.is_up or len(connections) <= turn:
+                        await asyncio.sleep(0.01)
+                link.drop("nothing came" if turn < 4 else "reset")
+            async with asyncio.timeout(20):
+                while "m1 is lost: reset" not in self.said:
+                    await asyncio.sleep(0.01)
+        running.cancel()
+        self.assertEqual(self.said[:4], ["at m1", "m1 is lost: nothing came", "at m2",
+                                         "m1 is lost: reset"])
+
     async def test_a_broker_that_takes_connections_and_says_nothing_is_left_for_the_next(
         self
     ) -> None:

@@ -24,6 +24,8 @@ FAREWELL = 1.0
 """Seconds for a broker to answer that a connection or a channel ends."""
 PAUSE, LONGEST_PAUSE = 0.2, 2.0
 """Seconds before the next broker is tried, where one was tried in vain."""
+AGAIN_TOLD = 60.0
+"""Seconds after which a loss for the same reason is told again."""
 OFFSET = "x-stream-offset"
 NO_STREAM = "what has the log's name is a queue and no stream: name another log"
 NO_COPY = "this broker has no copy of the log that runs"
@@ -62,7 +64,8 @@ class Link:
         self.lost = asyncio.Event()
         self.came_up: Callable[[], None] = lambda: None
         self._why = ""
-        self.broker = ""
+        self._told: dict[str, float] = {}
+        self._tells = True
 
     @property
     def is_up(self) -> bool:
@@ -91,8 +94,19 @@ class Link:
             failed.clear()
             pauses.begin_anew()
             await self.lost.wait()
-            self._say(self._words.lost.format(shown(broker)) + f": {self._why}")
+            self._tells = self._is_news(self._why)
+            if self._tells:
+                self._say(self._words.lost.format(shown(broker)) + f": {self._why}")
             await self._disconnect()
+
+    def _is_news(self, why: str) -> bool:
+        """Whether a connection was not lost for the same reason a moment ago: while an engine takes
+        or gives nothing, each broker is tried again and again."""
+        now = asyncio.get_running_loop().time()
+        if now - self._told.get(why, -AGAIN_TOLD) < AGAIN_TOLD:
+            return False
+        self._told[why] = now
+        return True
 
     async def _connect(self, broker: str) -> None:
         self.lost.clear()
@@ -106,8 +120,8 @@ class Link:
         except BaseException:
             await self._disconnect()
             raise
-        self.broker = broker
-        self._say(f"{self._words.there} {shown(broker)}")
+        if self._tells:
+            self._say(f"{self._words.there} {shown(broker)}")
         self._up.set()
         self.came_up()
 

@@ -78,7 +78,9 @@ class Feed:
         if offset == state.offset and state.digest not in ("", digest_of(message)):
             raise CannotFollow(await self._made_anew(state, f"at offset {offset} it has another "
                                                             "message"))
-        self._note_heard()
+        # (an old one says nothing of whether new ones come)
+        if offset > state.offset:
+            self._note_heard()
         return offset, message
 
     async def _next(self, messages: AsyncGenerator[tuple[int, bytes], None]) -> tuple[int, bytes]:
