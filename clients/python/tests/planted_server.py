@@ -2,7 +2,7 @@
 
 A store to the address of `want` is not passed on, and wants memory; one to that of `change` is
 carried out and answered as if it had been another; at one to that of `end` the server ends, and
-at one to that of `hold` it stays for ever.
+at one to that of `hold` it stays for ever. One to that of `slow` takes a while.
 """
 
 import struct
@@ -42,6 +42,8 @@ def main() -> int:
             return 1
         if address and address == plan.get("hold"):
             time.sleep(1e6)
+        if address and address == plan.get("slow"):
+            time.sleep(0.01)
         if address and address == plan.get("want"):
             write_message(sys.stdout.buffer, message[:4] + b"\2memory")
             continue

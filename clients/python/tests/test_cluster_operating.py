@@ -12,6 +12,7 @@ from unittest import mock
 from tests.local_nodes import COUNT_UP, LocalNode, NodesTest, planted
 from xqs.cluster import control, health, operating, watches
 from xqs.cluster.main import _actions, _parser, main
+from xqs.cluster.outbox import Pending
 from xqs.cluster.status import STATES, Status, status_of
 from xqs.errors import XqError
 from xqs.listening import PlaceError
@@ -155,6 +156,41 @@ class Questions(NodesTest):
             main(["--log", "amqp://u:secret@m1/docs", "--listen", "unix:/nowhere/x"])
         self.assertIn("amqps://", str(raised.exception))
         self.assertNotIn("secret", str(raised.exception))
+
+
+class Beginnings(NodesTest):
+    """When a node takes clients."""
+
+    async def test_one_that_comes_late_to_a_log_which_is_written_catches_up_first(self) -> None:
+        first = await self.begun("a")
+        client, over = await self.client(first), asyncio.Event()
+
+        async def write() -> None:
+            while not over.is_set():
+                await client.store("total", COUNT_UP)
+                await asyncio.sleep(0.03)
+
+        for _ in range(100):
+            await client.store("total", COUNT_UP)
+        writing = asyncio.create_task(write())
+        rounds = []
+        late = self.made("b", command=planted("slow=total"))
+        real = late.node._comes_back
+
+        async def noted(mark: Pending) -> bool:
+            begin = time.monotonic()
+            found = await real(mark)
+            rounds.append(time.monotonic() - begin)
+            return found
+
+        with mock.patch("xqs.cluster.node.NEAR", 0.5), \
+                mock.patch.object(late.node, "_comes_back", noted):
+            await late.start()
+        over.set()
+        await writing
+        self.assertGreater(len(rounds), 1)
+        self.assertLessEqual(rounds[-1], 0.5)
+        self.assertGreater(rounds[0], 0.5)
 
 
 class Copies(NodesTest):

@@ -25,6 +25,8 @@ from xqs.mux_clients import Clients, Settings
 from xqs.mux_peer import Peer, Request
 from xqs.waiting import cancelled
 
+NEAR = 2.0
+"""Seconds in which a mark of a node comes back that has caught up."""
 CLAIM = 0.5
 """Seconds in which a node of the same name may refuse this one, before it takes clients."""
 ENDING, DRAINING = 4.5, 2.0
@@ -124,21 +126,27 @@ class Node:
             self._fail(f"a fault of xqs node: {error!r}", 1)
 
     async def _catch_up(self) -> None:
-        """Waits until a mark of this node has come back, or the node fails."""
-        while not self.failed.is_set():
-            mark = self.outbox.mark()
-            failed = asyncio.create_task(self.failed.wait())
-            await asyncio.wait((mark.done, failed), return_when=asyncio.FIRST_COMPLETED)
-            failed.cancel()
-            if mark.done.done() and not mark.done.exception():
+        """Waits until a mark of this node comes back soon, or the node fails: while one comes back
+        late, others have written on."""
+        loop = asyncio.get_running_loop()
+        begin = loop.time()
+        while not self.failed.is_set() and self.follows():
+            posted = loop.time()
+            if not await self._comes_back(self.outbox.mark()):
+                if self.follows() and not self.failed.is_set():
+                    self.say("waits for the log")
+            elif loop.time() - posted <= NEAR or loop.time() - begin > self.options.seconds * 4:
                 self._note_caught_up()
                 with contextlib.suppress(TimeoutError):
                     await asyncio.wait_for(self.failed.wait(), CLAIM)
                 return
-            if not self.follows():
-                return
-            if not self.failed.is_set():
-                self.say("waits for the log")
+
+    async def _comes_back(self, mark: Pending) -> bool:
+        """Waits until a mark comes back, or is given up, or the node fails; whether it did."""
+        failed = asyncio.create_task(self.failed.wait())
+        await asyncio.wait((mark.done, failed), return_when=asyncio.FIRST_COMPLETED)
+        failed.cancel()
+        return mark.done.done() and not mark.done.exception()
 
     def _refuse_name(self) -> None:
         self._fail(f"another node of the name {self.options.name} follows this log: give each a "
