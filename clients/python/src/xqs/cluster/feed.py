@@ -40,6 +40,7 @@ class Feed:
         self._pauses = Pauses(AGAIN, LONGEST_PAUSE)
         self._silences = 0
         self._broke: float | None = None
+        self._was_heard = False
 
     async def messages(self, state: State) -> AsyncGenerator[tuple[int, bytes], None]:
         """The messages behind a state that goes on as they are taken. Raises CannotFollow."""
@@ -114,12 +115,14 @@ class Feed:
     def _note_break(self, why: str, state: State) -> None:
         if self._broke is None:
             self._broke = asyncio.get_running_loop().time()
-            self._say(f"{self._name}: {why}: the log is followed anew from {state}")
+            # (that there is no connection is told by whoever makes them)
+            if self._log.is_read:
+                self._say(f"{self._name}: {why}: the log is followed anew from {state}")
 
     def _note_heard(self) -> None:
         self._silences = 0
         self._pauses.begin_anew()
-        if self._broke is not None:
+        if self._broke is not None and self._was_heard:
             seconds = asyncio.get_running_loop().time() - self._broke
-            self._broke = None
             self._say(f"{self._name}: follows the log again, after {seconds:.1f} s")
+        self._broke, self._was_heard = None, True

@@ -75,7 +75,8 @@ class Status:
         rows = [
             ("state", self.state), ("log", f"{self.log} {self.identity}".strip()),
             ("place", f"{self.place:,} (offset {self.offset} of {self.end})"),
-            ("lag", f"{self.lag:.1f} s"), ("copies", f"{self.copies} of {self.brokers} brokers"),
+            ("lag", f"{self.lag:.1f} s"),
+            ("copies", f"{self.copies} of {self.brokers} brokers" if self.brokers else "not known"),
             ("last snapshot", snapshot), ("program", self.program),
             *((f"server {it.name}", f"place {it.place:,}, {it.state}") for it in self.servers)]
         return "\n".join([f"node {self.node}", *(f"  {name}: {text}" for name, text in rows)])
