@@ -116,6 +116,23 @@ def xqs(machines: Machines, name: str, *words: str) -> str:
     return machines.run(name, line).strip()
 
 
+def check_copies(machines: Machines) -> None:
+    """A copy that is not there is told, and made by what the page says."""
+    page = (TOP / "docs" / "CLUSTER.md").read_text(encoding="utf-8")
+    [script] = [part for part in page.split("\n\n") if "add_replica" in part]
+    script = re.sub(r"^    ", "", script, flags=re.MULTILINE).replace("rabbit@m4", "rabbit@m2")
+    ask = "set -a; . /etc/xqs/node; set +a; /opt/xq_server/xqs node --copies || true"
+    machines.run("m1", script.replace("add_replica", "delete_replica"))
+    assert "m2: has no copy" in machines.run("m1", ask)
+    machines.run("m1", script)
+    for _ in range(60):
+        if "no" not in (said := machines.run("m1", ask)):
+            print("   m2's copy was deleted, told as missing, and made again")
+            return
+        time.sleep(1)
+    raise AssertionError(said)
+
+
 def check_cluster(machines: Machines) -> None:
     """What is stored at one machine is read at all, with a broker lost, and after it."""
     machines.run("m1", "echo '<a>1</a>' > /root/a.xml")
@@ -134,6 +151,7 @@ def check_cluster(machines: Machines) -> None:
     while xqs(machines, "m3", "query", 'string(doc("a"))') != '"2"':
         assert time.monotonic() < end, "m3 does not read what m1 has stored"
         time.sleep(0.5)
+    check_copies(machines)
     refused = machines.run("m1", """
         /usr/bin/python3 - <<'END'
 import asyncio, aio_pika, os

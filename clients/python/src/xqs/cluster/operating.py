@@ -70,6 +70,7 @@ async def _copies(address: LogAddress) -> int:
     for broker, has in found.items():
         print(f"{broker}: {words[has]}")
     if False in found.values():
-        print(f"on a broker that has a copy: rabbitmq-streams add_replica {address.name} "
-              "rabbit@HOST", file=sys.stderr)
+        print("on a broker that has a copy, in /var/lib/rabbitmq: su rabbitmq -s /bin/sh -c "
+              f"'/usr/lib/rabbitmq/bin/rabbitmq-streams add_replica {address.name} rabbit@HOST'",
+              file=sys.stderr)
     return 0 if all(found.values()) else 1
