@@ -6,8 +6,9 @@
 It wants rabbitmq-server and python3-aio-pika of Debian, and so Debian's python3. Measured in turn,
 medians of the runs: stores with 64 in flight, by one server on a file, by one node over three
 brokers, and by one of three nodes that all follow; the `order by` of bench/queries.py, asked by six
-clients of one node, of three nodes, and of one node of three servers; and how long documents of
-100,000 rows take to restore, and a node to follow again that begins from a snapshot of them. Each
+clients of one node, of three nodes, and of one node of three servers; how long documents of
+100,000 rows take to restore, and a node to follow again that begins from a snapshot of them; and
+the longest pause of stores, one by one, while a node of two servers takes a snapshot of 25 MB. Each
 bound that is wanted is judged; where one doesn't hold, the exit status is 1.
 """
 
@@ -37,14 +38,17 @@ from harness import LIBRARY  # noqa: E402
 from queries import QUERIES, document  # noqa: E402
 
 from xqs import Client, connect  # noqa: E402
+from xqs.cluster import control  # noqa: E402
 
 FLIGHT, CLIENTS = 64, 6
 ELEMENTS = 100_000
 DOCUMENTS, ROWS = 100, 1_000
 ORDER_BY = next(query for name, query in QUERIES if name == "order by")
-STORES, READS, FOLLOWS = 0.3, 2.2, 3.0
+STORES, READS, FOLLOWS, PAUSE = 0.3, 2.2, 3.0, 0.1
 """The bounds: of stores through the log to those without, of reads of three nodes to those of one,
-and of the time to follow again to that of a restore."""
+of the time to follow again to that of a restore, and of a pause of stores, in seconds."""
+LARGE, MEGABYTES = 25, 1_000_000
+"""Documents of a megabyte each that a snapshot has whose pause is measured."""
 
 
 def stores(place: str | Sequence[str], seconds: float) -> float:
@@ -92,7 +96,8 @@ class Bench:
         """So many nodes over a log of their own."""
         self._logs += 1
         found = [RunningNode(f"n{self._logs}.{number}", self.brokers, f"log{self._logs}",
-                             self.folder, *options, first=number % 3, command=self.server)
+                             self.folder, "--servers", "1", *options, first=number % 3,
+                             command=self.server)
                  for number in range(count)]
         for node in found:
             node.begin(is_awaited=False)
@@ -163,6 +168,22 @@ class Bench:
         self.judge("beginning", begun / restored <= FOLLOWS,
                    f"{begun / restored:.2f} times the restore, wanted at most {FOLLOWS}")
 
+    def measure_pauses(self) -> None:
+        """The longest pause of stores while a snapshot is taken, and that without one."""
+        [node] = self.nodes(1, "--servers", "2")
+        with connect(node.place) as client:
+            for number in range(LARGE):
+                client.store(f"large{number}", "document {element a {text {string-join((1 to "
+                             f"{MEGABYTES // 10}) ! \"0123456789\")}}}}}}")
+            without = longest_pause(client, self.given.seconds, None)
+            pauses = [longest_pause(client, self.given.seconds, node) for _ in
+                      range(self.given.runs)]
+        found = statistics.median(pauses)
+        print(f"longest pause of stores one by one: {without * 1000:,.0f} ms without a snapshot, "
+              f"{found * 1000:,.0f} ms during one of {LARGE} MB")
+        self.judge("pause of a snapshot", found <= PAUSE, f"{found:.3f} s, wanted {PAUSE}")
+        end([node])
+
     @staticmethod
     def words(name: str) -> list[str]:
         """How a command of the client is run."""
@@ -177,6 +198,21 @@ def fill(client: Client) -> None:
         for number in range(DOCUMENTS)]
     for future in futures:
         future.result()
+
+
+def longest_pause(client: Client, seconds: float, node: RunningNode | None) -> float:
+    """The longest store, one by one, until a snapshot of the node is taken, or for some seconds."""
+    text, longest = LIBRARY.decode(), 0.0
+    with ThreadPoolExecutor(1) as pool:
+        taking = pool.submit(control.ask, node.snapshots, "snapshot") if node else None
+        until = time.perf_counter() + seconds
+        while (not taking.done()) if taking else time.perf_counter() < until:
+            begin = time.perf_counter()
+            client.store("b", text)
+            longest = max(longest, time.perf_counter() - begin)
+        if taking and not taking.result()[0]:
+            sys.exit(f"cluster: {taking.result()[1]}")
+    return longest
 
 
 def end(nodes: Sequence[RunningNode]) -> None:
@@ -209,14 +245,14 @@ def main() -> int:
     parser.add_argument("--seconds", type=float, default=5.0)
     parser.add_argument("--runs", type=int, default=5)
     parser.add_argument("--elements", type=int, default=ELEMENTS)
-    parser.add_argument("names", nargs="*", metavar="stores|reads|beginning")
+    parser.add_argument("names", nargs="*", metavar="stores|reads|beginning|pauses")
     given = parser.parse_args()
     if why := missing():
         sys.exit(f"cluster: {why}")
     print(f"{versions()}; the load of the machine is {os.getloadavg()[0]:.1f}")
     with Brokers() as brokers, tempfile.TemporaryDirectory(prefix="xqs-bench-") as room:
         bench = Bench(brokers, shlex.split(given.server), pathlib.Path(room), given)
-        for name in given.names or ("stores", "reads", "beginning"):
+        for name in given.names or ("stores", "reads", "beginning", "pauses"):
             getattr(bench, f"measure_{name}")()
     return 1 if bench.faults else 0
 

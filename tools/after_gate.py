@@ -30,13 +30,17 @@ TOP = pathlib.Path(__file__).resolve().parent.parent
 CLIENT = TOP / "clients" / "python"
 PYTHONS = (sys.executable, "/usr/bin/python3")
 PACKAGES = {
-    "test_cluster": ("aio_pika",), "test_page": ("aiohttp",), "test_page_tools": ("aiohttp",),
-    "test_page_values": ("aiohttp",), "test_toolkit": ("prompt_toolkit",),
+    "test_cluster": ("aio_pika",), "test_cluster_amqp": ("aio_pika",),
+    "test_cluster_restarts": ("aio_pika",), "test_cluster_torture": ("aio_pika",),
+    "test_page": ("aiohttp",), "test_page_tools": ("aiohttp",), "test_page_values": ("aiohttp",),
+    "test_toolkit": ("prompt_toolkit",),
     "test_web": ("aiohttp",), "test_web_http": ("aiohttp",), "test_web_slow": ("aiohttp",)
 }
 """The Python packages that the client's long tests want, by their files."""
 PROGRAMS = {
     "test_cluster": ("/usr/lib/rabbitmq/bin/rabbitmq-server", "epmd"),
+    "test_cluster_restarts": ("/usr/lib/rabbitmq/bin/rabbitmq-server", "epmd"),
+    "test_cluster_torture": ("/usr/lib/rabbitmq/bin/rabbitmq-server", "epmd", "ip", "nsenter"),
     "test_page": ("chromium",), "test_page_tools": ("chromium",), "test_page_values": ("chromium",),
     "test_xml_files": ("xmllint",),
 }
@@ -118,10 +122,17 @@ def client_trials(given: Given) -> Iterator[Trial]:
             PROGRAMS.get(path.stem, ()), served, CLIENT, server)
 
 
+def as_root(given: Given) -> str:
+    """What is missing where machines are made of network namespaces."""
+    return served(given) or ("" if os.geteuid() == 0 else "machines of its own want root")
+
+
 def program_trials(given: Given) -> Iterator[Trial]:
     """The scripts that run the program, or any server."""
     server = shlex.join(given.server)
     corpus = str(given.corpus / "public.jsonl")
+    yield Trial("cluster_page", ["python3", "tools/run_cluster_page.py", "--server", server],
+                ("aio_pika",), ("/usr/lib/rabbitmq/bin/rabbitmq-server", "ip", "nsenter"), as_root)
     yield Trial("dialogue", ["python3", "tools/try_dialogue.py", *given.server], wants=served)
     yield Trial("file", ["python3", "tools/try_file.py"], (), ("sqlite3",), built)
     yield Trial("kills", ["python3", "tools/kill_often.py"], wants=built)

@@ -7,6 +7,7 @@ import tempfile
 import unittest
 from pathlib import Path
 from typing import Any
+from unittest import mock
 
 from tests.memory_log import MemoryLink, MemoryLog
 from tests.support import server_command
@@ -76,6 +77,10 @@ class NodesTest(unittest.IsolatedAsyncioTestCase):
         asyncio.get_running_loop().set_debug(False)
         self.folder = Path(tempfile.mkdtemp(prefix="xqs-nodes-"))
         self.log = MemoryLog()
+        # (a name that is taken is told soon in one process)
+        claim = mock.patch("xqs.cluster.node.CLAIM", 0.02)
+        claim.start()
+        self.addCleanup(claim.stop)
         self.nodes: list[LocalNode] = []
         self.clients: list[AsyncClient] = []
 

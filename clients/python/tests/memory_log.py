@@ -1,9 +1,10 @@
 """A log in memory, in the place of an engine: with faults that tests plant."""
 
 import asyncio
+import os
 from collections.abc import AsyncGenerator, Callable
 
-from xqs.cluster.batches import MARK, Batch, encode
+from xqs.cluster.batches import probe
 from xqs.cluster.log import Away
 
 
@@ -15,6 +16,7 @@ class MemoryLog:
         self.kept: list[bytes] = []
         self.first = 0
         self.links: list[MemoryLink] = []
+        self.copies: dict[str, bool | None] = {"memory": True}
 
     def append(self, message: bytes) -> int:
         """Adds a message; its offset."""
@@ -38,7 +40,8 @@ class MemoryLink:
     """A node's connection to a log in memory.
 
     `plan` may say of each message that is published what becomes of it: `keep`, `lose`, or
-    `keep unconfirmed`; after the last two the connection ends, and comes back.
+    `keep unconfirmed`; after the last two the connection ends, and comes back. `refuse` is not
+    kept, and the connection stays. While `is_stuck` nothing comes, and nothing says so.
     """
 
     def __init__(self, log: MemoryLog) -> None:
@@ -48,6 +51,8 @@ class MemoryLink:
         self.came_up: Callable[[], None] = lambda: None
         self.plan: Callable[[bytes], str] = lambda message: "keep"
         self.grown = asyncio.Event()
+        self.is_stuck = False
+        self.drops: list[str] = []
         self._ends = 0
 
     async def publish(self, message: bytes) -> None:
@@ -56,6 +61,8 @@ class MemoryLink:
         if not self.is_up:
             raise Away("it is down")
         plan = self.plan(message)
+        if plan == "refuse":
+            raise Away(plan)
         if plan != "lose":
             self.log.append(message)
         if plan != "keep":
@@ -68,7 +75,7 @@ class MemoryLink:
         if not self.is_up:
             raise Away("it is down")
         while True:
-            while at >= len(self.log.kept):
+            while at >= len(self.log.kept) or self.is_stuck:
                 self.grown.clear()
                 await self.grown.wait()
                 if self._ends != ends:
@@ -78,15 +85,28 @@ class MemoryLink:
                 raise Away("the connection ended")
             at += 1
 
-    async def first_offset(self) -> int:
-        """The offset of the oldest message."""
-        return self.log.first
+    @property
+    def is_read(self) -> bool:
+        """Whether the log can be read."""
+        return self.is_up
+
+    async def first_message(self) -> tuple[int, bytes]:
+        """The oldest message, with its offset."""
+        if self.is_stuck:
+            await asyncio.Event().wait()
+        if not self.is_up or self.log.first >= len(self.log.kept):
+            raise Away("it is down")
+        return self.log.first, self.log.kept[self.log.first]
 
     async def end_offset(self) -> int:
         """The offset of a message that is added now."""
         if not self.is_up:
             raise Away("it is down")
-        return self.log.append(encode(Batch("probe", 1, (MARK,))))
+        return self.log.append(probe(os.urandom(8)))
+
+    async def copies(self) -> dict[str, bool | None]:
+        """Of each broker whether it has a copy."""
+        return dict(self.log.copies)
 
     def drop(self, why: str) -> None:
         """Ends the connection, and makes another one at once."""
@@ -94,6 +114,16 @@ class MemoryLink:
         self.grown.set()
         if self.is_up:
             asyncio.get_running_loop().call_soon(self.came_up)
+
+    def drop_reading(self, why: str) -> None:
+        """Ends the connection that reads."""
+        self.drops.append(why)
+        self.drop(why)
+
+    def drop_writing(self, why: str) -> None:
+        """Ends the connection that writes."""
+        self.drops.append(why)
+        self.drop(why)
 
     def go_down(self) -> None:
         """The log can't be reached from now on."""

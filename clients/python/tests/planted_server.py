@@ -1,12 +1,14 @@
 """Stands before a server, with faults: `planted_server.py WORD=ADDRESS .. -- COMMAND [WORDS]`.
 
 A store to the address of `want` is not passed on, and wants memory; one to that of `change` is
-carried out and answered as if it had been another; at one to that of `end` the server ends.
+carried out and answered as if it had been another; at one to that of `end` the server ends, and
+at one to that of `hold` it stays for ever. One to that of `slow` takes a while.
 """
 
 import struct
 import subprocess
 import sys
+import time
 from typing import IO
 
 
@@ -38,6 +40,10 @@ def main() -> int:
         if address and address == plan.get("end"):
             server.kill()
             return 1
+        if address and address == plan.get("hold"):
+            time.sleep(1e6)
+        if address and address == plan.get("slow"):
+            time.sleep(0.01)
         if address and address == plan.get("want"):
             write_message(sys.stdout.buffer, message[:4] + b"\2memory")
             continue

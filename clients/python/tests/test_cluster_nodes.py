@@ -12,7 +12,8 @@ from tests.histories import History, faults
 from tests.local_nodes import COUNT_UP, LocalNode, NodesTest, planted
 from xqs.cluster import control, snapshots
 from xqs.cluster.follower import Follower
-from xqs.errors import Refused, Wanting, XqError
+from xqs.cluster.main import _actions
+from xqs.errors import Refused, Unknown, Wanting, XqError
 
 ENDLESS = "every $x in 1 to 1000000, $y in 1 to 1000000 satisfies $x > 0"
 
@@ -259,7 +260,7 @@ class Beginnings(NodesTest):
     async def test_servers_are_renewed_while_stores_come(self) -> None:
         with mock.patch("xqs.cluster.upkeep.MEMORY_FRAMES", 40), \
                 mock.patch("xqs.cluster.upkeep.FILE_FRAMES", 40), \
-                mock.patch("xqs.cluster.node.LOOK", 0.01):
+                mock.patch("xqs.cluster.watches.LOOK", 0.01):
             nodes = [await self.begun("a"), await self.begun("b", file=self.folder / "x.db")]
             first = [node.node.followers[0].backend for node in nodes]
             clients = [await self.client(node) for node in nodes]
@@ -357,12 +358,58 @@ class Stops(NodesTest):
             self.assertFalse(nodes[0].node.failed.is_set() or nodes[1].node.failed.is_set())
             self.assertEqual(await self.documents(nodes[0]), await self.documents(nodes[1]))
 
+    async def counted(self, nodes: list[LocalNode], count: int) -> None:
+        """Stores so many documents by the first node."""
+        client = await self.client(nodes[0])
+        for number in range(count):
+            await client.store(f"c{number}", value(number))
+
+    async def test_one_wrong_node_of_three_servers_stops_no_right_one(self) -> None:
+        with mock.patch("xqs.cluster.agreement.EVERY", 10):
+            nodes = [await self.begun("a"), await self.begun("b"),
+                     await self.begun("c", command=planted("change=c4"), servers=3)]
+            await self.counted(nodes, 40)
+            await self.until(nodes[2].node.failed.is_set)
+            self.assertFalse(nodes[0].node.failed.is_set() or nodes[1].node.failed.is_set())
+            self.assertEqual(await self.documents(nodes[0]), await self.documents(nodes[1]))
+
+    async def test_of_two_that_differ_both_are_shown_and_read_and_a_third_settles_it(self) -> None:
+        with mock.patch("xqs.cluster.agreement.EVERY", 10):
+            nodes = [await self.begun("a"), await self.begun("b", command=planted("change=c4"))]
+            client = await self.client(nodes[0])
+            for number in range(25):
+                with suppress(Wanting, Unknown):
+                    client = await self.client(nodes[0])
+                    await client.store(f"c{number}", value(number))
+            for node in nodes:
+                await self.until(lambda: bool(node.node.followers[0].halted))
+                said = "\n".join(node.said)
+                self.assertIn("node a (program commit 1) has the sum", said)
+                self.assertIn("node b (program commit 1) has the sum", said)
+                self.assertFalse(node.node.failed.is_set())
+                self.assertEqual(await (await self.client(node)).query('string(doc("c3"))'), ["3"])
+            third = await self.begun("c")
+            await self.until(lambda: nodes[0].has_said("most nodes have its sum at place 10"))
+            await self.until(nodes[1].node.failed.is_set)
+            self.assertTrue(nodes[1].has_said("b differs from others, and stops"))
+            await (await self.client(nodes[0])).store("later", value(1))
+            self.assertEqual(await self.documents(nodes[0]), await self.documents(third))
+
+    async def test_another_program_with_the_same_sums_is_a_warning(self) -> None:
+        with mock.patch("xqs.cluster.agreement.EVERY", 10):
+            nodes = [await self.begun("a"), await self.begun("b", program="commit 2")]
+            await self.counted(nodes, 25)
+            await self.until(lambda: nodes[0].has_said("node b runs the program commit 2, and this "
+                                                       "one commit 1: their sums are alike"))
+            self.assertEqual(await self.documents(nodes[0]), await self.documents(nodes[1]))
+            self.assertFalse(any(it.node.failed.is_set() for it in nodes))
+
     async def test_all_end_at_one_place_and_another_program_goes_on(self) -> None:
         nodes = [await self.begun("a"), await self.begun("b")]
         client = await self.client(nodes[0])
         await client.store("c", value(1))
         socket = control.control_path(self.folder)
-        actions = {"snapshot": nodes[0].node.take_snapshot, "end": nodes[0].node.end_all}
+        actions = _actions(nodes[0].node)
         server = await asyncio.start_unix_server(
             lambda *it: control.serve(actions, *it), str(socket))
         for request, words in (("snapshot", "1 documents of place 1"), ("x", "there is no 'x'"),

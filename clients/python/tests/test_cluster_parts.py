@@ -1,23 +1,28 @@
 """What a node computes and what it keeps in files, without an engine of logs."""
 
+import asyncio
 import contextlib
 import io
 import json
 import random
 import shlex
+import subprocess
+import sys
 import unittest
 
 from tests.histories import History, Read, Write, faults
-from tests.support import FolderTest, ServerTest, file_server, store_part
+from tests.local_nodes import planted
+from tests.support import FolderTest, ServerTest, file_server, server_command, store_part
 from xqs import Client, connect
 from xqs.backup import restore_main
 from xqs.cluster import addresses, batches, program, snapshots, sums
-from xqs.cluster.agreement import EVERY, Agreement, Differs, Report
+from xqs.cluster.agreement import EVERY, Agreement, Differs, Report, Tied
 from xqs.cluster.batches import MAX_BYTES, MAX_ENTRIES, Batch, NoBatch
 from xqs.cluster.seen import Seen
 from xqs.cluster.snapshots import NoSnapshot
 from xqs.cluster.state import NoState, State
 from xqs.cluster.store_file import NotOurs, StoreFile
+from xqs.mux_backend import StartFailed
 from xqs.protocol import MAX_REQUEST
 
 
@@ -140,9 +145,10 @@ class Agreeing(unittest.TestCase):
         self.own = Agreement("a", "p")
         self.assertIsNotNone(self.own.reached(EVERY, "1" * 64))
 
-    def hear(self, node: str, total: str, program: str = "p", place: int = EVERY) -> str:
+    def hear(self, node: str, total: str, program: str = "p", place: int = EVERY,
+             skips: tuple[int, ...] = ()) -> str:
         """What is said of another node's report."""
-        return self.own.hear(Report(node, place, total * 64, program))
+        return self.own.hear(Report(node, place, total * 64, program, skips))
 
     def test_nodes_that_agree_say_nothing(self) -> None:
         self.assertEqual([self.hear(node, "1") for node in "abc"], ["", "", ""])
@@ -161,13 +167,54 @@ class Agreeing(unittest.TestCase):
         self.assertIn("node a (program p) has the sum 1111", str(raised.exception))
         self.assertIn("node b (program p) has the sum 2222", str(raised.exception))
 
-    def test_of_two_that_differ_both_stop_at_the_next_report(self) -> None:
-        self.hear("b", "2")
-        with self.assertRaises(Differs):
-            self.own.reached(2 * EVERY, "3" * 64)
+    def test_a_node_has_one_vote_however_many_servers_report(self) -> None:
+        """One wrong node of three servers stops no right one."""
+        for _ in range(3):
+            self.hear("wrong", "2")
+        self.hear("b", "1")
+        self.own.reached(2 * EVERY, "3" * 64)
 
-    def test_another_program_differs(self) -> None:
-        self.assertIn("program q", self.hear("b", "1", "q"))
+    def test_of_two_that_differ_both_halt_at_the_next_report_and_say_both(self) -> None:
+        self.hear("b", "2")
+        with self.assertRaises(Tied) as raised:
+            self.own.reached(2 * EVERY, "3" * 64)
+        self.assertIn("node a (program p) has the sum 1111", str(raised.exception))
+        self.assertIn("node b (program p) has the sum 2222", str(raised.exception))
+        self.assertEqual(self.own.tied_at, EVERY)
+
+    def test_a_third_one_settles_who_of_two_is_right(self) -> None:
+        self.hear("b", "2")
+        with self.assertRaises(Tied):
+            self.own.reached(2 * EVERY, "3" * 64)
+        self.assertTrue(self.own.is_tied(EVERY))
+        self.hear("c", "1")
+        self.assertFalse(self.own.is_tied(EVERY))
+        other = Agreement("b", "p")
+        other.reached(EVERY, "2" * 64)
+        other.hear(Report("a", EVERY, "1" * 64, "p"))
+        with self.assertRaises(Differs):
+            other.hear(Report("c", EVERY, "1" * 64, "p"))
+
+    def test_a_majority_of_five_goes_on(self) -> None:
+        for node, total in (("b", "2"), ("c", "1"), ("d", "2"), ("e", "1")):
+            self.hear(node, total)
+        self.own.reached(2 * EVERY, "3" * 64)
+
+    def test_another_program_with_the_same_sums_is_a_warning_that_is_said_once(self) -> None:
+        self.assertIn("node b runs the program q, and this one p: their sums are alike so far",
+                      self.hear("b", "1", "q"))
+        self.assertEqual(self.hear("b", "1", "q"), "")
+        self.hear("c", "1", "q")
+        self.own.reached(2 * EVERY, "2" * 64)
+
+    def test_another_server_of_the_same_node_is_told_too(self) -> None:
+        self.assertIn("node a (program p) has the sum 2222", self.hear("a", "2"))
+        with self.assertRaises(Differs):
+            self.hear("b", "2")
+
+    def test_reports_with_other_skips_are_not_compared(self) -> None:
+        self.assertEqual([self.hear(node, "2", skips=(7,)) for node in "bcd"], ["", "", ""])
+        self.own.reached(2 * EVERY, "2" * 64)
 
     def test_reports_of_places_that_are_not_known_are_left_out(self) -> None:
         self.assertEqual(self.hear("b", "9", place=5 * EVERY), "")
@@ -192,6 +239,18 @@ class Addresses(unittest.TestCase):
                 addresses.log_address(text)
             self.assertNotIn("secret", str(raised.exception))
 
+    def test_brokers_of_other_machines_want_tls(self) -> None:
+        for text in ("amqp://u:p@127.0.0.1:5/docs,127.0.0.2,localhost", "amqps://m1/docs,m2",
+                     "amqp://localhost/docs,amqps://m2/docs", "amqp://[::1]/docs"):
+            addresses.check_ways(addresses.log_address(text), False)
+        for text in ("amqp://u:secret@m1/docs", "amqp://localhost/docs,m2",
+                     "amqps://m1/docs,amqp://10.0.0.2/docs"):
+            log = addresses.log_address(text)
+            with self.assertRaises(ValueError) as raised:
+                addresses.check_ways(log, False)
+            self.assertNotIn("secret", str(raised.exception))
+            addresses.check_ways(log, True)
+
 
 class States(unittest.TestCase):
     """How far a server has come."""
@@ -213,15 +272,34 @@ class States(unittest.TestCase):
 class Programs(FolderTest):
     """What names a program."""
 
-    def test_a_file_is_named_by_its_checksum_and_a_release_by_its_commit(self) -> None:
-        path = self.folder / "serve"
-        path.write_text("#!/bin/sh\n")
-        path.chmod(0o755)
-        self.assertRegex(program.name_of([str(path)]), r"^checksum [0-9a-f]{16}$")
-        (self.folder / "RELEASE.txt").write_text("xq_server, commit 0123abcd of 2026-11-26\n")
-        self.assertEqual(program.name_of([str(path), "--unproved"]), "unproved commit 0123abcd")
-        with self.assertRaises(program.NoProgram):
-            program.name_of([str(self.folder / "nothing")])
+    def named(self, *command: str) -> str:
+        """The name of the program that a command runs."""
+        return asyncio.run(program.name_of_running(command))
+
+    def test_the_name_is_that_of_the_program_whatever_starts_it(self) -> None:
+        own = self.named(*server_command())
+        self.assertRegex(own, r"^checksum [0-9a-f]{16}$")
+        script = self.folder / "start"
+        words = shlex.join(server_command())
+        for text in (f"exec {words}", f"{words}\nexit $?"):
+            script.write_text(f"#!/bin/sh\n{text}\n")
+            script.chmod(0o755)
+            self.assertEqual(self.named(str(script)), own, text)
+        self.assertEqual(self.named("prlimit", "--nofile=500", *server_command()), own)
+        self.assertEqual(self.named(*planted("want=x")), own)
+
+    def test_of_a_script_that_answers_itself_the_file_counts(self) -> None:
+        names = set()
+        for number in range(2):
+            path = self.folder / f"server{number}.py"
+            path.write_text(f"import sys\nsys.stdin.read({number + 1})\n")
+            with subprocess.Popen([sys.executable, str(path)], stdin=subprocess.PIPE) as process:
+                names.add(program.name_of_process(process.pid))
+        self.assertEqual(len(names), 2)
+
+    def test_what_does_not_run_is_refused(self) -> None:
+        with self.assertRaises(StartFailed):
+            self.named(str(self.folder / "nothing"))
 
 
 class Snapshots(ServerTest):

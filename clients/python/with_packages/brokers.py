@@ -147,6 +147,10 @@ class Brokers:
         self.signal(name, signal.SIGKILL)
         self._processes[name].wait()
 
+    def wait_for_end(self, name: str) -> None:
+        """Waits until a broker has ended."""
+        self._processes[name].wait(PATIENCE)
+
     def control(self, name: str, *words: str) -> str:
         """What `rabbitmqctl` prints when it asks a broker."""
         done = subprocess.run(

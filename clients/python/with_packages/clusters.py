@@ -188,6 +188,50 @@ class Writer:
                                         time.monotonic(), self.name, is_fresh))
 
 
+class Watcher:
+    """A client of a node that reads the shared document again and again, each time once the read
+    before it was answered: no read may see less than one before it, over all lives of the node."""
+
+    def __init__(self, node: RunningNode) -> None:
+        self.faults: list[str] = []
+        self.count = 0
+        self._node = node
+        self._last = 0
+
+    async def work(self, until: float) -> None:
+        """Reads up to that time."""
+        while time.monotonic() < until:
+            with suppress(Closed, OSError, TimeoutError, Refused, Wanting):
+                async with await self._node.connect() as client:
+                    while time.monotonic() < until:
+                        await asyncio.wait_for(self._step(client), 60)
+                        await asyncio.sleep(0.01)
+            await asyncio.sleep(0.1)
+
+    async def _step(self, client: AsyncClient) -> None:
+        text = await client.query_text(
+            f'if (doc-available("{SHARED}")) then string(doc("{SHARED}")/n) else "0"')
+        value_now = number_of(text.encode())
+        self.count += 1
+        if value_now < self._last:
+            self.faults.append(f"{self._node.name}: {value_now} was read after {self._last}")
+        self._last = max(self._last, value_now)
+
+
+async def follows_again(node: RunningNode, since: float, seconds: float) -> float | None:
+    """Seconds from a time to the first store after it that a node answers; None where it answers
+    none within so many seconds of now."""
+    end = time.monotonic() + seconds
+    while time.monotonic() < end:
+        with suppress(XqError, OSError, TimeoutError):
+            async with asyncio.timeout_at(asyncio.get_running_loop().time() + seconds):
+                async with await aio.connect(node.place) as client:
+                    await client.store(f"seen/{node.name}", value(1))
+                return time.monotonic() - since
+        await asyncio.sleep(0.1)
+    return None
+
+
 async def all_taken(nodes: Sequence[RunningNode]) -> None:
     """Waits until each node has carried out all that the log held when this was called.
 

@@ -10,6 +10,7 @@ import shlex
 import shutil
 import signal
 import struct
+import subprocess
 import sys
 import tempfile
 import threading
@@ -28,10 +29,10 @@ except ImportError as error:
     raise unittest.SkipTest("aio_pika is not installed") from error
 
 from brokers import Brokers, missing
-from clusters import BEGINNING, SHARED, RunningNode, Writer, all_taken, value
+from clusters import BEGINNING, SHARED, RunningNode, Watcher, Writer, all_taken, value
 from tests.histories import History, faults
 from tests.local_nodes import planted
-from tests.serving import Connection, RunningMux, store_body
+from tests.serving import SOURCES, Connection, RunningMux, store_body
 from tests.support import TOP
 from xqs import connect
 from xqs.cluster.addresses import log_address
@@ -75,8 +76,8 @@ class ClusterTest(unittest.IsolatedAsyncioTestCase):
 
     def made(self, name: str, *options: str, **others: object) -> RunningNode:
         """A node that has not begun."""
-        node = RunningNode(name, brokers, self.log, self.folder, "--seconds", "20", *options,
-                           **others)  # type: ignore[arg-type]
+        node = RunningNode(name, brokers, self.log, self.folder, "--seconds", "20",
+                           "--servers", "1", *options, **others)  # type: ignore[arg-type]
         self.addCleanup(self.ended, node)
         return node
 
@@ -132,10 +133,14 @@ class Trial(ClusterTest):
         for writer in writers:
             writer.others = writers
         until = time.monotonic() + SECONDS
+        watchers = [Watcher(node) for node in self.nodes]
         work = [asyncio.create_task(it.work(until, it.name.startswith("n2"))) for it in writers]
+        work += [asyncio.create_task(it.work(until)) for it in watchers]
         done = await self.trouble(until)
         await asyncio.gather(*work)
-        print(f"{SECONDS:g} s, seed {SEED}: {await self.check(self.nodes, writers)}; {done}")
+        self.assertEqual([it.faults for it in watchers], [[] for _ in watchers])
+        print(f"{SECONDS:g} s, seed {SEED}: {await self.check(self.nodes, writers)}; "
+              f"{sum(it.count for it in watchers):,} reads in turn; {done}")
 
     async def trouble(self, until: float) -> str:
         """One fault after the other: each broker killed and stopped in turn, nodes and their
@@ -210,7 +215,9 @@ class Steps(ClusterTest):
         writers = [Writer(node, number, self.history) for node in nodes for number in range(2)]
         for number, step in enumerate(steps):
             with self.subTest(step=step):
-                nodes[1].begin(f"{step}:{3 + number % 4}")
+                # (as it begins it takes some messages of its own)
+                count = (3 if step in SNAPSHOT_STEPS else 12) + number % 4
+                nodes[1].begin(f"{step}:{count}")
                 until = time.monotonic() + 60
                 work = [asyncio.create_task(it.work(until)) for it in writers]
                 await self.pass_step(nodes[1], step)
@@ -289,6 +296,10 @@ class Logs(ClusterTest):
         brokers.control("a", "add_user", "xqs", "a-word")
         self.addCleanup(brokers.control, "a", "delete_user", "xqs")
         brokers.control("a", *words)
+        early = self.made("n0", account="xqs:a-word")
+        early.begin(is_awaited=False)
+        await asyncio.to_thread(early.wait_for, "ACCESS_REFUSED", 90)
+        await self.declare({"x-queue-type": "stream"})
         node = self.begun("n1", account="xqs:a-word")
         async with await node.connect() as client:
             self.assertFalse(await client.store("c", value(1)))
@@ -297,6 +308,36 @@ class Logs(ClusterTest):
         other.begin(is_awaited=False)
         await asyncio.to_thread(other.wait_for, "no log at 127.0.0.1")
         self.assertNotIn("another", other.said())
+
+    async def test_that_account_may_not_delete_or_purge_the_log(self) -> None:
+        await self.declare({"x-queue-type": "stream"})
+        brokers.control("a", "add_user", "xqs2", "a-word")
+        self.addCleanup(brokers.control, "a", "delete_user", "xqs2")
+        brokers.control("a", "set_permissions", "xqs2", "^$", f"^({self.log}|amq\\.default)$",
+                        f"^{self.log}$")
+        where = log_address(brokers.address(self.log, account="xqs2:a-word"))
+        for what in ("delete", "purge"):
+            connection = await aio_pika.connect(where.brokers[0])
+            async with connection:
+                channel = await connection.channel()
+                queue = await channel.get_queue(self.log)
+                with self.assertRaises(Exception, msg=what):
+                    await getattr(queue, what)()
+
+    async def test_copies_are_counted_and_a_broker_without_one_is_left(self) -> None:
+        await self.declare({"x-queue-type": "stream", "x-initial-cluster-size": 1})
+        words = [sys.executable, "-m", "xqs", "node", "--copies", "--log",
+                 brokers.address(self.log)]
+        done = await asyncio.to_thread(subprocess.run, words, cwd=SOURCES, capture_output=True,
+                                       text=True, timeout=120)
+        self.assertEqual(done.returncode, 1, done.stderr)
+        self.assertEqual(done.stdout.count("has no copy"), 2, done.stdout)
+        self.assertIn(f"rabbitmq-streams add_replica {self.log}", done.stderr)
+        node = self.begun("n1", first=1)
+        self.assertIn("this broker has no copy of the log that runs", node.said())
+        await asyncio.to_thread(node.wait_for, "2 of 3 brokers have no copy of the log", 90)
+        async with await node.connect() as client:
+            await client.store("c", value(1))
 
     async def declare(self, arguments: dict[str, str | int]) -> None:
         """Makes a queue of the log's name."""
@@ -385,7 +426,7 @@ class Servers(ClusterTest):
         for client in clients:
             await client.close()
         self.assertEqual(await asyncio.to_thread(nodes[2].process.wait, 60), 1)
-        self.assertRegex(nodes[2].said(), r"this node differs from others, and stops: at place "
+        self.assertRegex(nodes[2].said(), r"n3 differs from others, and stops: at place "
                          r"1000 node n3 \(program another\) has the sum [0-9a-f]{16}, and node "
                          r"n[12] \(program .+\) has the sum [0-9a-f]{16}")
         await all_taken(nodes[:2])

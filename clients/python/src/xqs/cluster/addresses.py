@@ -1,5 +1,6 @@
 """Where a log is: the addresses of the brokers that keep it, and its name."""
 
+import ipaddress
 import os
 import urllib.parse
 from dataclasses import dataclass
@@ -40,6 +41,25 @@ def given_log(text: str | None) -> LogAddress:
     if not where:
         raise ValueError(f"no log is named: give --log, or set {VARIABLE}")
     return log_address(where)
+
+
+def check_ways(address: LogAddress, is_plain_taken: bool) -> None:
+    """ValueError where a broker of another machine is to be asked without TLS: passwords and
+    documents would be read on the way."""
+    if is_plain_taken:
+        return
+    for broker in address.brokers:
+        parts = urllib.parse.urlsplit(broker)
+        if parts.scheme != "amqps" and not _is_here(parts.hostname or ""):
+            raise ValueError(f"{shown(broker)} is another machine: name it by amqps://, or give "
+                             "--plain where the network is yours alone")
+
+
+def _is_here(host: str) -> bool:
+    try:
+        return ipaddress.ip_address(host).is_loopback
+    except ValueError:
+        return host == "localhost"
 
 
 def shown(broker: str) -> str:

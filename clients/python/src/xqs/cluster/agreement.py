@@ -1,6 +1,7 @@
-"""Whether nodes agree: every so many places each reports its sum and its program in the log."""
+"""Whether nodes agree: every so many places each reports its sum in the log, with one vote."""
 
 import json
+from collections import Counter
 from collections.abc import Mapping
 from dataclasses import dataclass
 
@@ -14,32 +15,40 @@ KEPT = 32
 
 
 class Differs(XqError):
-    """This node differs from others: it holds other documents, or runs another program."""
+    """This server holds other documents than most nodes."""
+
+
+class Tied(XqError):
+    """This server holds other documents than as many nodes as hold the same: nobody knows which."""
 
 
 @dataclass(frozen=True, slots=True)
 class Report:
-    """What a node says of a place: the sum over all replies up to it, and the program."""
+    """What a node says of a place: the sum over all replies up to it, its program, and the places
+    that it has skipped."""
 
     node: str
     place: int
     total: str
     program: str
+    skips: tuple[int, ...] = ()
 
     def entry(self) -> bytes:
         """The entry of the log."""
         fields = {"node": self.node, "place": self.place, "sum": self.total,
-                  "program": self.program}
+                  "program": self.program, "skips": list(self.skips)}
         return EntryKind.REPORT.value + json.dumps(fields).encode()
 
     @staticmethod
     def of(entry: bytes) -> "Report | None":
         """The report of an entry; None where it is none."""
+        if entry[:1] != EntryKind.REPORT:
+            return None
         try:
             fields = json.loads(entry[1:])
             return Report(str(fields["node"]), int(fields["place"]), str(fields["sum"]),
-                          str(fields["program"]))
-        except (ValueError, KeyError, TypeError):
+                          str(fields["program"]), tuple(map(int, fields.get("skips", ()))))
+        except (ValueError, KeyError, TypeError, AttributeError):
             return None
 
     def __str__(self) -> str:
@@ -47,64 +56,105 @@ class Report:
 
 
 class Agreement:
-    """What this node and others reported.
+    """What this server and all nodes reported.
 
-    Where one of three nodes differs, that one is to stop: a node stops once it is alone against
-    two, and where it is one against one, at the next report, when all had the time to speak.
+    Sums alone count. Where more nodes have another sum than this server's, it is to stop at once;
+    where as many have it, it halts at its next report, when all had the time to speak, and goes on
+    once others say that it is right; `tied_at` is that place.
     """
 
     def __init__(self, node: str, program: str, sums: Mapping[int, str] | None = None) -> None:
-        """`sums` has those of this node at earlier places."""
+        """`sums` has those of this server at earlier places."""
         self._node, self._program = node, program
-        self._own = dict(sums or {})
+        self._own = {place: Report(node, place, total, program)
+                     for place, total in (sums or {}).items()}
         self._heard: dict[int, dict[str, Report]] = {}
         self._last = max(self._own, default=0)
+        self._told: set[tuple[str, str]] = set()
+        self.tied_at = 0
 
     @property
     def sums(self) -> dict[int, str]:
-        """The last sums of this node, by place."""
-        return dict(self._own)
+        """The last sums of this server, by place."""
+        return {place: report.total for place, report in self._own.items()}
 
-    def reached(self, place: int, total: str) -> Report | None:
-        """This node's report, where one is due at the place. Raises Differs."""
+    def reached(self, place: int, total: str, skips: tuple[int, ...] = ()) -> Report | None:
+        """This server's report, where one is due at the place. Raises Differs, Tied."""
         if place % EVERY:
             return None
-        self._own[place] = total
+        report = Report(self._node, place, total, self._program, skips)
+        self._own[place] = report
         self._last = place
         for old in [it for it in self._own if it <= place - KEPT * EVERY]:
             del self._own[old]
         self._judge(place)
         self._judge(place - EVERY)
-        return self._report(place)
+        return report
+
+    def own(self, place: int) -> Report | None:
+        """This server's report of a place, while it is kept."""
+        return self._own.get(place)
+
+    def is_disputed(self, place: int) -> bool:
+        """Whether another sum than this server's was heard of the place."""
+        return place in self._own and bool(self._against(place))
+
+    def is_tied(self, place: int) -> bool:
+        """Whether as many nodes, or more, have another sum of the place as have this server's."""
+        return self.is_disputed(place) and self._most(place) >= self._alike(place)
 
     def hear(self, report: Report) -> str:
-        """Takes a report; what is to be said of it, if anything. Raises Differs."""
+        """Takes a report; what is to be said of it, if anything. Raises Differs, Tied."""
         heard = self._heard.setdefault(report.place, {})
         is_new = heard.get(report.node) != report
         heard[report.node] = report
         for old in [it for it in self._heard if it <= self._last - KEPT * EVERY]:
             del self._heard[old]
-        if report.place not in self._own or self._agrees(report):
+        own = self._own.get(report.place)
+        if own is None:
+            return ""
+        if report.total == own.total:
+            return self._warning(report)
+        if report.skips != own.skips:
             return ""
         self._judge(report.place)
         return self._said(report) if is_new else ""
 
-    def _report(self, place: int) -> Report:
-        return Report(self._node, place, self._own[place], self._program)
-
-    def _agrees(self, report: Report) -> bool:
-        return (report.total, report.program) == (self._own[report.place], self._program)
+    def _warning(self, other: Report) -> str:
+        """That a node runs another program, which is said once."""
+        if other.program == self._program or (other.node, other.program) in self._told:
+            return ""
+        self._told.add((other.node, other.program))
+        return (f"node {other.node} runs the program {other.program}, and this one "
+                f"{self._program}: their sums are alike so far")
 
     def _said(self, other: Report) -> str:
-        return f"at place {other.place} {self._report(other.place)}, and {other}"
+        return f"at place {other.place} {self._own[other.place]}, and {other}"
+
+    def _votes(self, place: int) -> list[Report]:
+        """The other votes that can be compared with this server's: one of each node, its own too
+        where that is of another of its servers, which has another sum."""
+        own = self._own[place]
+        return [it for it in self._heard.get(place, {}).values() if it.skips == own.skips
+                and (it.node != self._node or it.total != own.total)]
+
+    def _against(self, place: int) -> list[Report]:
+        return [it for it in self._votes(place) if it.total != self._own[place].total]
+
+    def _alike(self, place: int) -> int:
+        total = self._own[place].total
+        return 1 + sum(it.total == total for it in self._votes(place))
+
+    def _most(self, place: int) -> int:
+        """How many have the sum that most of the others have, which is not this server's."""
+        return max(Counter(it.total for it in self._against(place)).values(), default=0)
 
     def _judge(self, place: int) -> None:
-        if place not in self._own:
+        if not self.is_disputed(place):
             return
-        heard = self._heard.get(place, {})
-        against = [it for it in heard.values() if not self._agrees(it)]
-        alike = 1 + sum(self._agrees(it) and it.node != self._node for it in heard.values())
-        is_outvoted = len(against) > max(alike, 1)
-        is_in_doubt = self._last > place and len(against) >= alike
-        if against and (is_outvoted or is_in_doubt):
+        against, alike, most = self._against(place), self._alike(place), self._most(place)
+        if most > max(alike, 1):
             raise Differs(self._said(against[0]))
+        if most >= alike and self._last > place:
+            self.tied_at = place
+            raise Tied(self._said(against[0]))

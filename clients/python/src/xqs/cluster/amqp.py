@@ -1,134 +1,109 @@
-"""The log as a stream of RabbitMQ: the one module that speaks to it, by aio_pika."""
+"""The log as a stream of RabbitMQ: the one module beside its links that speaks to it."""
 
 import asyncio
-import itertools
-import logging
-from collections.abc import AsyncGenerator, AsyncIterator, Callable, Iterator
-from contextlib import asynccontextmanager, contextmanager, suppress
-from typing import TypeAlias
+import uuid
+from collections.abc import AsyncGenerator, AsyncIterator, Callable, Coroutine
+from contextlib import asynccontextmanager, suppress
+from typing import Any, TypeAlias, TypeVar
 
 import aio_pika
 from aio_pika.abc import AbstractChannel, AbstractConnection, AbstractIncomingMessage
-from aio_pika.exceptions import (
-    CONNECTION_EXCEPTIONS,
-    ChannelNotFoundEntity,
-    ChannelPreconditionFailed,
-)
+from aio_pika.exceptions import ChannelNotFoundEntity
 
 from xqs.cluster.addresses import LogAddress, shown
-from xqs.cluster.batches import MARK, Batch, encode
+from xqs.cluster.amqp_link import (
+    FAREWELL, NO_STREAM, OFFSET, PATIENCE, Link, NoCopy, Words, farewell, told_as_away,
+)
+from xqs.cluster.batches import probe
+from xqs.cluster.limits import within
 from xqs.cluster.log import Away, CannotFollow
 from xqs.cluster.steps import passed
 
 PREFETCH = 16
 """So many messages that were not taken yet come ahead."""
-PATIENCE = 5.0
-"""Seconds for an answer of a broker."""
-PAUSE = 0.2
-"""Seconds before the next broker is tried, where one was tried in vain."""
+LOOK = 1.0
+"""Seconds between two looks whether the broker still has this consumer."""
 STREAM = {"x-queue-type": "stream"}
-NO_STREAM = "what has the log's name is a queue and no stream: name another log"
-_OFFSET = "x-stream-offset"
+READING = Words("the log is at", "the log at {} is lost", "no log at")
+WRITING = Words("writes go to", "writes can't go to {} any more", "no writes to")
 
 Inbox: TypeAlias = "asyncio.Queue[AbstractIncomingMessage | None]"
 """Messages as they come; None at their end."""
+T = TypeVar("T")
 
 
 class AmqpLog:
-    """A stream of RabbitMQ, by one connection to one of its brokers; another one is tried after it.
+    """A stream of RabbitMQ, read by one connection to one of its brokers and written by another.
 
-    `run` keeps the connection, and calls `came_up` at each new one. The stream is made where it is
-    not there.
+    An engine that wants disk or memory takes nothing from a connection that writes, not even the
+    acknowledgements of what it reads: so there are two. `run` keeps them, and calls `came_up` at
+    each new one that writes. The stream is made where it is not there.
     """
 
     def __init__(self, address: LogAddress, say: Callable[[str], None]) -> None:
         self.name = address.name
+        self.brokers = address.brokers
         self.came_up: Callable[[], None] = lambda: None
-        self._brokers = address.brokers
-        self._say = say
-        self._connection: AbstractConnection | None = None
+        self._reading = Link(address.brokers, READING, say, self._begin_reading)
+        self._writing = Link(address.brokers, WRITING, say, self._begin_writing)
+        self._writing.came_up = lambda: self.came_up()
         self._publisher: AbstractChannel | None = None
-        self._up = asyncio.Event()
-        self._lost = asyncio.Event()
-        self._why = ""
 
     @property
     def is_up(self) -> bool:
-        """Whether there is a connection."""
-        return self._up.is_set()
+        """Whether the log can be written now."""
+        return self._writing.is_up
+
+    @property
+    def is_read(self) -> bool:
+        """Whether the log can be read now."""
+        return self._reading.is_up
 
     async def run(self) -> None:
         """Connects to one broker after the other, for as long as this runs."""
-        failed: dict[str, str] = {}
-        for broker in itertools.cycle(self._brokers):
+        await asyncio.gather(self._reading.run(), self._writing.run())
+
+    async def _begin_reading(self, connection: AbstractConnection) -> None:
+        """That the stream is there, with a copy at this broker."""
+        await self._made(connection)
+        # (what is no stream is refused where messages are asked of it)
+        with suppress(CannotFollow):
+            await self._look_for_copy(connection)
+
+    async def _begin_writing(self, connection: AbstractConnection) -> None:
+        channel = await self._made(connection)
+        channel.close_callbacks.add(self._writing.on_close)
+        self._publisher = channel
+
+    async def _made(self, connection: AbstractConnection) -> AbstractChannel:
+        """A channel, once the stream is there."""
+        with told_as_away():
             try:
-                await self._connect(broker)
-            except Away as error:
-                if failed.get(broker) != str(error):
-                    self._say(f"no log at {shown(broker)}: {error}")
-                failed[broker] = str(error)
-                await asyncio.sleep(PAUSE)
-                continue
-            failed.clear()
-            await self._lost.wait()
-            self._say(f"the log at {shown(broker)} is lost: {self._why}")
-            await self._disconnect()
-
-    async def _connect(self, broker: str) -> None:
-        self._lost.clear()
-        try:
-            with _told_as_away():
-                async with asyncio.timeout(2 * PATIENCE):
-                    self._connection = await aio_pika.connect(broker, timeout=PATIENCE)
-                    self._connection.close_callbacks.add(self._on_close)
-                    self._publisher = await self._opened(self._connection)
-        except Away:
-            await self._disconnect()
-            raise
-        self._say(f"the log is at {shown(broker)}")
-        self._up.set()
-        self.came_up()
-
-    async def _opened(self, connection: AbstractConnection) -> AbstractChannel:
-        """A channel to publish by, once the stream is there."""
-        try:
-            channel = await connection.channel()
-            await channel.get_queue(self.name)
-        except ChannelNotFoundEntity:
-            channel = await connection.channel()
-            await channel.declare_queue(self.name, durable=True, arguments=dict(STREAM))
-        channel.close_callbacks.add(self._on_close)
+                channel = await connection.channel()
+                await channel.get_queue(self.name)
+            except ChannelNotFoundEntity:
+                channel = await connection.channel()
+                await channel.declare_queue(self.name, durable=True, arguments=dict(STREAM))
         return channel
 
-    def _on_close(self, _: object = None, error: BaseException | None = None) -> None:
-        self.drop(_reason(error) if error else "the connection was closed")
+    def drop_reading(self, why: str) -> None:
+        """Gives up the connection that reads, so that another one is made."""
+        self._reading.drop(why)
 
-    def drop(self, why: str) -> None:
-        """Gives up the connection at hand, so that another one is made."""
-        if not self._lost.is_set():
-            self._why = why
-            self._up.clear()
-            self._lost.set()
-
-    async def _disconnect(self) -> None:
-        self._up.clear()
-        connection, self._connection, self._publisher = self._connection, None, None
-        if connection is not None:
-            with suppress(Away), _told_as_away():
-                async with asyncio.timeout(1):
-                    await connection.close()
+    def drop_writing(self, why: str) -> None:
+        """Gives up the connection that writes, so that another one is made."""
+        self._writing.drop(why)
 
     async def close(self) -> None:
-        """Ends the connection."""
-        self.drop("it is not wanted any more")
-        await self._disconnect()
+        """Ends the connections."""
+        await asyncio.gather(self._reading.close(), self._writing.close())
 
     async def publish(self, message: bytes) -> None:
         """Adds a message; comes back once it is confirmed. Raises Away."""
         publisher = self._publisher
         if publisher is None or not self.is_up:
             raise Away("there is no connection to the log")
-        with _told_as_away():
+        with told_as_away():
             sent = aio_pika.Message(message, delivery_mode=2)
             await publisher.default_exchange.publish(sent, routing_key=self.name)
 
@@ -137,48 +112,116 @@ class AmqpLog:
         async with self._inbox(after + 1 if after >= 0 else "first", PREFETCH) as inbox:
             while (message := await inbox.get()) is not None:
                 yield offset_of(message), message.body
-                with _told_as_away():
-                    await message.ack()
+                await self._asked(_acknowledged(message))
                 passed("acknowledged")
         raise Away("the stream of messages ended")
 
+    @staticmethod
+    async def _asked(work: Coroutine[Any, Any, T], seconds: float = PATIENCE) -> T:
+        with told_as_away():
+            return await within(seconds, work)
+
     @asynccontextmanager
     async def _inbox(self, begin: int | str, prefetch: int) -> AsyncIterator[Inbox]:
-        """Messages by a channel of their own."""
-        connection = self._connection
-        if connection is None or not self.is_up:
-            raise Away("there is no connection to the log")
+        """Messages by a channel of their own. Raises Away; NoCopy has the next broker tried."""
+        connection = self._reading.connection()
         inbox: Inbox = asyncio.Queue()
-        with _told_as_away():
-            async with asyncio.timeout(PATIENCE):
-                channel = await connection.channel(publisher_confirms=False)
-                channel.close_callbacks.add(lambda *_: inbox.put_nowait(None))
-                await channel.set_qos(prefetch_count=prefetch)
-                queue = await channel.get_queue(self.name)
-                await queue.consume(inbox.put, arguments={_OFFSET: begin})
-        watch = asyncio.create_task(self._end_inbox(inbox))
+        channel = await self._asked(_channel(connection))
+        watch = None
         try:
+            tag = await self._asked(self._consumed(channel, inbox, begin, prefetch))
+            watch = asyncio.create_task(self._end_inbox(inbox, channel, tag))
             yield inbox
+        except NoCopy as error:
+            self.drop_reading(str(error))
+            raise
         finally:
-            watch.cancel()
-            with suppress(Away), _told_as_away():
-                async with asyncio.timeout(1):
-                    await channel.close()
+            if watch:
+                watch.cancel()
+            with suppress(Away, CannotFollow):
+                await self._asked(_closed(channel), FAREWELL)
 
-    async def _end_inbox(self, inbox: Inbox) -> None:
-        await self._lost.wait()
+    async def _consumed(self, channel: AbstractChannel, inbox: Inbox, begin: int | str,
+                        prefetch: int) -> str:
+        channel.close_callbacks.add(lambda *_: inbox.put_nowait(None))
+        await channel.set_qos(prefetch_count=prefetch)
+        queue = await channel.get_queue(self.name)
+        return await queue.consume(inbox.put, arguments={OFFSET: begin})
+
+    async def _end_inbox(self, inbox: Inbox, channel: AbstractChannel, tag: str) -> None:
+        """Ends what comes where the connection is given up, or the broker has cancelled it."""
+        while _has(channel, tag):
+            with suppress(TimeoutError):
+                await asyncio.wait_for(self._reading.lost.wait(), LOOK)
+                break
         inbox.put_nowait(None)
 
-    async def first_offset(self) -> int:
-        """The offset of the oldest message that the log has. Raises Away."""
+    async def first_message(self) -> tuple[int, bytes]:
+        """The oldest message that the log has, with its offset. Raises Away."""
         async with self._inbox("first", 1) as inbox:
-            return offset_of(await _one(inbox))
+            message = await _one(inbox)
+            return offset_of(message), message.body
 
     async def end_offset(self) -> int:
-        """The offset of a message that is added now. Raises Away."""
-        async with self._inbox("next", 1) as inbox:
-            await self.publish(encode(Batch("probe", 1, (MARK,))))
-            return offset_of(await _one(inbox))
+        """The offset of a message that is added now: of one that nobody else sends. Raises Away."""
+        own = probe(uuid.uuid4().bytes)
+
+        async def find() -> int:
+            async with self._inbox("next", PREFETCH) as inbox:
+                await self.publish(own)
+                # (a copy that lags gives older ones before it)
+                while (message := await _one(inbox)).body != own:
+                    await self._asked(_acknowledged(message))
+                return offset_of(message)
+
+        return await self._asked(find(), 2 * PATIENCE)
+
+    async def copies(self) -> dict[str, bool | None]:
+        """Of each broker whether it has a copy of the log; None where it does not answer."""
+        found = await asyncio.gather(*(self._has_copy(it) for it in self.brokers))
+        return dict(zip(map(shown, self.brokers), found, strict=True))
+
+    async def _has_copy(self, broker: str) -> bool | None:
+
+        async def look() -> None:
+            connection = await aio_pika.connect(broker, timeout=PATIENCE)
+            try:
+                await self._look_for_copy(connection)
+            finally:
+                await farewell(connection)
+
+        try:
+            await self._asked(look(), 2 * PATIENCE)
+        except NoCopy:
+            return False
+        except (Away, CannotFollow):
+            return None
+        return True
+
+    async def _look_for_copy(self, connection: AbstractConnection) -> None:
+        """Raises NoCopy where the broker has none."""
+        with told_as_away():
+            channel = await _channel(connection)
+            await self._consumed(channel, asyncio.Queue(), "next", 1)
+            await channel.close()
+
+
+async def _channel(connection: AbstractConnection) -> AbstractChannel:
+    return await connection.channel(publisher_confirms=False)
+
+
+async def _closed(channel: AbstractChannel) -> None:
+    await channel.close()
+
+
+async def _acknowledged(message: AbstractIncomingMessage) -> None:
+    await message.ack()
+
+
+def _has(channel: AbstractChannel, tag: str) -> bool:
+    """Whether a channel still has a consumer: the package forgets one that the broker cancels."""
+    consumers = getattr(getattr(channel, "channel", None), "consumers", None)
+    return consumers is None or tag in consumers
 
 
 async def _one(inbox: Inbox) -> AbstractIncomingMessage:
@@ -191,39 +234,9 @@ async def _one(inbox: Inbox) -> AbstractIncomingMessage:
     return message
 
 
-@contextmanager
-def _told_as_away() -> Iterator[None]:
-    """Raises Away for what the package raises of a connection that does not work, or no longer;
-    CannotFollow where a queue takes no offset."""
-    try:
-        yield
-    except asyncio.CancelledError as error:
-        # The package cancels what waits for a connection that ends.
-        task = asyncio.current_task()
-        if task is not None and task.cancelling():
-            raise
-        raise Away("the connection was closed") from error
-    except ChannelPreconditionFailed as error:
-        if _OFFSET in str(error):
-            raise CannotFollow(NO_STREAM) from error
-        raise Away(_reason(error)) from error
-    except (*CONNECTION_EXCEPTIONS, TimeoutError, asyncio.InvalidStateError) as error:
-        raise Away(_reason(error)) from error
-
-
 def offset_of(message: AbstractIncomingMessage) -> int:
     """The offset of a message in its stream. CannotFollow where it comes from no stream."""
-    offset = message.headers.get(_OFFSET)
+    offset = message.headers.get(OFFSET)
     if not isinstance(offset, int):
         raise CannotFollow(NO_STREAM)
     return offset
-
-
-def _reason(error: BaseException) -> str:
-    return str(error) or type(error).__name__
-
-
-def quiet() -> None:
-    """Has the package print nothing of lost connections: what runs here tells of them."""
-    for name in ("aio_pika", "aiormq", "pamqp"):
-        logging.getLogger(name).setLevel(logging.CRITICAL + 1)

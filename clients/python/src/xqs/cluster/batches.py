@@ -38,9 +38,21 @@ class EntryKind(bytes, Enum):
     """A sum over all replies up to a place, for others to compare."""
     END = b"E"
     """All nodes take a snapshot here and end."""
+    IDENTITY = b"I"
+    """What names the log: the first one in it counts."""
+    HELLO = b"H"
+    """A node begins; the name and the life of it are those of the sender."""
+    TAKEN = b"T"
+    """A sender that began has the name of one that was there before."""
+    SKIP = b"K"
+    """The store or drop of a place is not carried out."""
 
 
 MARK = EntryKind.MARK.value
+
+
+PROBER = "probe"
+"""The sender of probes; each has the number 1, so that nobody takes more than the first."""
 
 
 class NoBatch(XqError, ValueError):
@@ -68,6 +80,11 @@ def encode(batch: Batch) -> bytes:
     for entry in batch.entries:
         pieces += (_LENGTH.pack(len(entry)), entry)
     return b"".join(pieces)
+
+
+def probe(token: bytes) -> bytes:
+    """The message of a mark that is told from all others by its token."""
+    return encode(Batch(PROBER, 1, (MARK + token,)))
 
 
 def decode(message: bytes) -> Batch:

@@ -1,7 +1,7 @@
 """How `xqs snapshot` asks a node that runs: a socket in the node's folder of snapshots.
 
-A request is one line, `snapshot` or `end`; the answer is `done` or `refused`, a space, and a line
-of what is to be said.
+A request is one line, as `snapshot`, `end`, `status` or `skip PLACE`; the answer is `done` or
+`refused`, a space, and a line of what is to be said.
 """
 
 import asyncio
@@ -15,7 +15,10 @@ NAME = "control"
 MOST = 4096
 """The longest line, in bytes."""
 
-Action = Callable[[], Awaitable[str]]
+Action = Callable[[str], Awaitable[str]]
+"""Carries a request out, with the words behind its first one."""
+ANSWER = 600.0
+"""Seconds for an answer: a large snapshot takes its time."""
 
 
 class NotRunning(XqError):
@@ -33,11 +36,12 @@ async def serve(
     """Answers one request."""
     try:
         line = (await reader.readline()).decode(errors="replace").strip()
-        action = actions.get(line)
+        word, _, rest = line.partition(" ")
+        action = actions.get(word)
         if action is None:
             answer = f"refused there is no {line[:20]!r}"
         else:
-            answer = f"done {await action()}"
+            answer = f"done {await action(rest)}"
     except (XqError, OSError, ValueError) as error:
         answer = f"refused {error}"
     try:
@@ -52,13 +56,17 @@ async def serve(
 def ask(folder: Path, request: str) -> tuple[bool, str]:
     """Asks the node; whether it was done, and what is said of it. NotRunning."""
     with socket.socket(socket.AF_UNIX) as connection:
+        connection.settimeout(ANSWER)
         try:
             connection.connect(str(control_path(folder)))
         except OSError as error:
             raise NotRunning(f"no node runs with the snapshots of {folder}") from error
         connection.sendall(request.encode() + b"\n")
         with connection.makefile("r", errors="replace") as answers:
-            word, _, said = answers.readline().rstrip("\n").partition(" ")
+            try:
+                word, _, said = answers.readline().rstrip("\n").partition(" ")
+            except OSError as error:
+                raise NotRunning(f"the node did not answer ({error})") from error
     if not word:
         raise NotRunning("the node ended before it answered")
     return word == "done", said

@@ -7,12 +7,18 @@ from dataclasses import dataclass
 from pathlib import Path
 from typing import TYPE_CHECKING
 
-from xqs.cluster import snapshots, sums
-from xqs.cluster.agreement import Agreement, Differs, Report
+from xqs.bounds import shown_size
+from xqs.cluster import aside, identity, snapshots, sums
+from xqs.cluster.agreement import Agreement, Differs, Report, Tied
+from xqs.cluster.aside import SKIPPED, skipped_place
 from xqs.cluster.batches import Batch, EntryKind, NoBatch, changes, decode
+from xqs.cluster.feed import Feed, digest_of
+from xqs.cluster.identity import PATIENCE
+from xqs.cluster.limits import within
 from xqs.cluster.log import Away, CannotFollow, Log
 from xqs.cluster.outbox import Outbox
-from xqs.cluster.serving import Asked, ServerEnded, ask, with_client
+from xqs.cluster.names import Names
+from xqs.cluster.serving import Asked, ServerEnded, ask, give, with_client
 from xqs.cluster.snapshots import Snapshot
 from xqs.cluster.state import State
 from xqs.cluster.steps import passed
@@ -27,15 +33,26 @@ if TYPE_CHECKING:
     from xqs.cluster.reads import Reads
 
 AGAIN = 0.2
-"""Seconds before the log is asked again where it could not be reached."""
+"""Seconds between two looks whether another server has taken the place of one that ended."""
 START_DELAYS = (0.0, 0.1, 0.5, 1.0, 2.0)
 """Seconds before each try to start the server again; after the last the follower gives up."""
 VAIN_TRIES = 3
 """So many servers in turn may end at one entry; then it is left to whoever looks at it."""
 
 
+GONE = 5.0
+"""Seconds for which a server may be at a query whose client has gone: to fill another one takes
+time too."""
+OWN_SECONDS = 120.0
+"""Seconds for one request of a snapshot or of a restore, at least."""
+
+
 class Halted(XqError):
     """The server can't carry out what comes next in the log, and has carried out all before it."""
+
+
+class GoBack(Exception):
+    """The server has carried out an entry that all nodes are to skip."""
 
 
 class Ended(Exception):
@@ -44,14 +61,16 @@ class Ended(Exception):
 
 @dataclass(frozen=True)
 class Given:
-    """What a follower is given: its name, its server's command, the program that this runs, and
-    where its documents and snapshots are."""
+    """What a follower is given: its name and that of its node, its server's command, the program
+    that this runs, where its documents and snapshots are, and the memory of its server."""
 
     name: str
+    node: str
     command: Sequence[str]
     program: str
     file: StoreFile | None
     snapshots: Path | None
+    memory: int | None = None
 
 
 class Follower:
@@ -61,23 +80,35 @@ class Follower:
     of `state`. `reading` has the reads of clients that the server was sent, `waits_since` the time
     at which the wait for the next message began. While `is_reporting` it reports its sums.
     `retired` is a server that ends because another one is to take its place.
+
+    `carried` is the place of the last entry that the server has answered, `line` that of the last
+    one in its line, and `promised` the line at which the last read was sent that it has not
+    answered yet. A server that halted and `may_return`, or was tied with others at the place
+    `tied_at`, waits for what lets it go on; `skips` are the places that it is not to carry out.
     """
 
     def __init__(self, given: Given, log: Log, outbox: Outbox, reads: "Reads",
                  say: Callable[[str], None]) -> None:
         self.given = given
-        self._log = log
+        self.log = log
         self._outbox = outbox
         self._reads = reads
-        self._say = say
+        self.say = say
         self.state = self._nothing()
         self.between = asyncio.Lock()
         self.reading: set[Request] = set()
         self.halted = ""
+        self.may_return, self.tied_at = False, 0
         self.is_ready = self.is_ended = self.is_done = self.is_reporting = False
         self.waits_since: float | None = None
         self.retired: Backend | None = None
+        self.carried = self.line = self.promised = 0
+        self.skips: set[int] = set()
+        self.names: Names | None = None
+        self._reported: set[int] = set()
+        self._aside: dict[int, str] = {}
         self._backend: Backend | None = None
+        self._feed = Feed(given.name, log, say)
         self._ends: dict[int, int] = {}
 
     @property
@@ -98,26 +129,28 @@ class Follower:
         """
         file = self.given.file
         state = await asyncio.to_thread(file.begin) if file else None
+        self.promised = 0
         snapshot = None if state else await self._newest()
         self._backend = await self.start_server()
         try:
             if snapshot:
                 found = snapshot
                 count = await with_client(self.backend, lambda it: snapshots.restore(it, found))
-                self._say(f"{self.name} begins from {found.path}: {count} documents of "
-                          f"{found.state}")
+                self.say(f"{self.name} begins from {found.path}: {count} documents of "
+                         f"{found.state}")
             self.state = self._checked(
                 state or (snapshot.state if snapshot else self._nothing()))
         except BaseException:
             self.backend.kill()
             raise
-        self.agreement = Agreement(self.name, self.given.program, self.state.reports)
+        self.agreement = Agreement(self.given.node, self.given.program, self.state.reports)
+        self.carried = self.line = self.state.place
         self.is_ready = True
         self._reads.changed()
 
     async def start_server(self) -> Backend:
         """Another process of this server's command. Raises StartFailed."""
-        return await Backend.start(self.given.command, self._on_reply, None)
+        return await Backend.start(self.given.command, self._on_reply, None, self.given.memory)
 
     def go_on_with(self, backend: Backend) -> None:
         """Puts a process with the same documents into the place of the one that was there."""
@@ -126,19 +159,25 @@ class Follower:
         self._reads.changed()
 
     def _nothing(self) -> State:
-        return State(self._log.name, self.given.program)
+        return State(self.log.name, self.given.program)
 
     async def _newest(self) -> Snapshot | None:
         folder = self.given.snapshots
-        return await asyncio.to_thread(snapshots.newest, folder, self._say) if folder else None
+        if folder is None:
+            return None
+        return await asyncio.to_thread(snapshots.newest, folder, self.say, self.fits)
+
+    def fits(self, state: State) -> bool:
+        """Whether a state has skipped all places up to it that are to be skipped."""
+        return all(it > state.place or it in state.skips for it in self.skips)
 
     def _checked(self, state: State) -> State:
         """A state to begin from. Another program may go on from there, where all nodes change."""
-        if state.log != self._log.name:
-            raise CannotFollow(f"the documents are of the log {state.log}, not {self._log.name}")
+        if state.log != self.log.name:
+            raise CannotFollow(f"the documents are of the log {state.log}, not {self.log.name}")
         if state.program != self.given.program:
-            self._say(f"{self.name}: the program {self.given.program} goes on at {state}, where "
-                      f"{state.program} came to")
+            self.say(f"{self.name}: the program {self.given.program} goes on at {state}, where "
+                     f"{state.program} came to")
             state.program, state.reports = self.given.program, {}
         return state
 
@@ -154,11 +193,15 @@ class Follower:
                 await asyncio.wait((following, ended), return_when=asyncio.FIRST_COMPLETED)
                 if following.done():
                     following.result()
-            except (Halted, CannotFollow) as error:
-                self._halt(str(error))
+            except (Halted, Tied, CannotFollow) as error:
+                self._halt(error)
             except Differs as error:
                 self.halted = str(error)
                 raise
+            except GoBack as error:
+                self.say(f"{self.name}: {error}")
+                self.backend.kill()
+                await self.backend.ended.wait()
             except ServerEnded:
                 pass
             finally:
@@ -181,26 +224,77 @@ class Follower:
                 return
             await asyncio.sleep(AGAIN)
 
-    async def rest(self) -> None:
-        """Waits until the server ends that no longer follows the log; then nothing is left to
-        answer reads with."""
-        await self.backend.ended.wait()
+    async def rest(self) -> bool:
+        """Waits until the server that halted can go on; False once it has ended, and can't."""
+        ways = [asyncio.create_task(it) for it in aside.ways_back(self)]
+        ended = asyncio.create_task(self.backend.ended.wait())
+        try:
+            await asyncio.wait((*ways, ended), return_when=asyncio.FIRST_COMPLETED)
+            back = [it.result() for it in ways if it.done()]
+        finally:
+            await cancelled(*ways, ended)
+        if not back and not self.may_return:
+            await self.give_up()
+            return False
+        await self._go_on(back[0] if back else "its server has ended")
+        return True
+
+    async def give_up(self) -> None:
+        """Ends the server for good; its reads go to others."""
         self.is_ready, self.is_ended = False, True
-        self._settle_in_flight()
+        if self._backend is not None:
+            self.backend.kill()
+            await self.backend.ended.wait()
+            self._settle_in_flight()
         self._reads.changed()
 
-    def _halt(self, why: str) -> None:
-        self.halted = why
-        self._say(f"{self.name} no longer follows the log, at {self.state}: {why}; reads are "
-                  "answered with the documents of that place until the node is started again "
-                  "from a snapshot")
+    async def _go_on(self, why: str) -> None:
+        """Follows the log again, with the server that runs or another one."""
+        async with self.between:
+            if self.backend.ended.is_set():
+                await self._begin_again()
+            self.say(f"{self.name} follows the log again, from {self.state}: {why}")
+            self.halted, self.may_return, self.tied_at = "", False, 0
+        self._reads.changed()
+
+    def end_held(self, seconds: float, entry_seconds: float) -> None:
+        """Ends a server that a read holds for longer than the seconds, or an entry for longer than
+        its own; the next server halts before that entry. What this node asks for a snapshot may
+        take long, and not for ever."""
+        if self._backend is None or self.backend.ended.is_set() or not self.backend.in_flight:
+            return
+        front, worked = self.backend.in_flight[0], self.backend.worked()
+        if isinstance(front, Asked):
+            if worked <= entry_seconds:
+                return
+            self._aside[front.place] = (f"the entry of place {front.place:,} held its server for "
+                                        f"over {entry_seconds:g} seconds")
+        elif front in self.reading and worked > GONE and front.peer and front.peer.has_gone():
+            front.peer.cut()
+        elif worked <= (seconds if front in self.reading else max(entry_seconds, OWN_SECONDS)):
+            return
+        self.backend.overdue = front
+        self.backend.kill()
+
+    def _halt(self, error: XqError) -> None:
+        """Notes why the server no longer follows the log, and says what may have it go on."""
+        self.halted = why = str(error)
+        self.may_return = isinstance(error, Halted)
+        self.tied_at = self.agreement.tied_at if isinstance(error, Tied) else 0
+        place = self.state.place + 1
+        hint = ""
+        if self.may_return:
+            hint = (f"; it goes on from a later snapshot of another node, once that is in its "
+                    f"folder, or where all nodes skip the entry (xqs node --skip {place})")
+        self.say(f"{self.name} steps aside, and no longer follows the log, at {self.state}: "
+                 f"{why}; reads are answered with the documents of that place{hint}")
         self._reads.changed()
 
     async def _begin_again(self) -> None:
         """Starts a server in the place of one that has ended, from the newest snapshot."""
         self.is_ready = False
-        self._say(f"{self.name}: the server is started again ({self.backend.status()}, at "
-                  f"{self.state})")
+        self.say(f"{self.name}: the server is started again ({self.backend.status()}, at "
+                 f"{self.state})")
         self._settle_in_flight()
         for number, delay in enumerate(START_DELAYS):
             await asyncio.sleep(delay)
@@ -210,13 +304,14 @@ class Follower:
             except (StartFailed, Closed, Wanting, OSError) as error:
                 if number == len(START_DELAYS) - 1:
                     raise
-                self._say(str(error))
+                self.say(str(error))
 
     def _settle_in_flight(self) -> None:
         """Settles what the server that ended had: each entry is carried out anew by the next one;
         clients' reads go back to whoever sent them."""
         in_flight = list(self.backend.in_flight)
         self.backend.in_flight.clear()
+        self.promised = 0
         if in_flight and isinstance(in_flight[0], Asked):
             self._ends[self.state.place] = self._ends.get(self.state.place, 0) + 1
         for number, request in enumerate(in_flight):
@@ -226,33 +321,35 @@ class Follower:
             elif request in self.reading:
                 self.reading.discard(request)
                 is_blamed = number == 0 and not self.backend.is_worth_a_repetition(request)
-                self._reads.returned(request, is_blamed)
+                is_overdue = self.backend.overdue is request
+                self._reads.returned(request, is_blamed, is_overdue)
 
     def _on_reply(self, request: Request, reply: bytes) -> None:
         if isinstance(request, Asked):
+            self.line = self.carried = (
+                request.place if reply[0] != Status.WANTING else self.carried)
             if not request.done.done():
                 request.done.set_result(reply)
             return
         if request in self.reading:
             self.reading.discard(request)
+            self._reads.raise_floor(self.carried)
             self._reads.changed()
-        if request.peer and not request.peer.gone:
-            request.peer.answer(request, reply)
+        give(request, reply)
 
     async def _follow(self) -> None:
-        """Takes each message of the log as it comes."""
+        """Takes each message of the log as it comes, until it raises what ends that."""
         while True:
             try:
-                await self._check_end()
                 await self._take_all()
-            except Away:
-                self.waits_since = None
+            except Away as error:
+                # (a gap could not be judged, since the log does not answer now)
+                self.say(f"{self.name}: {error}: the log is followed anew from {self.state}")
                 await asyncio.sleep(AGAIN)
 
     async def _take_all(self) -> None:
-        """Takes messages until the connection ends. Raises Away then."""
-        async with aclosing(self._log.messages(self.state.offset)) as messages:
-            self._wait_begins()
+        self._wait_begins()
+        async with aclosing(self._feed.messages(self.state)) as messages:
             async for offset, message in messages:
                 with self._working():
                     async with self.between:
@@ -273,20 +370,11 @@ class Follower:
             self._outbox.stir()
             self._wait_begins()
 
-    async def _check_end(self) -> None:
-        """That the log goes as far as this follower has come; else it is another one."""
-        if self.state.offset >= 0:
-            end = await self._log.end_offset()
-            if end <= self.state.offset:
-                raise CannotFollow(f"the log {self._log.name} ends at offset {end}, and the "
-                                   f"documents are of {self.state}: it is not the log that they "
-                                   "followed, or it was made anew")
-
     async def _check_gap(self, offset: int) -> None:
-        first = await self._log.first_offset()
+        first, _ = await within(PATIENCE, self.log.first_message())
         if first > self.state.offset + 1:
             raise CannotFollow(
-                f"the log {self._log.name} begins at offset {first}, and the documents are of "
+                f"the log {self.log.name} begins at offset {first}, and the documents are of "
                 f"{self.state}: what lies between is no longer there, so begin from a later "
                 "snapshot, which another node has")
 
@@ -300,15 +388,19 @@ class Follower:
         try:
             batch = decode(message)
         except NoBatch as error:
-            self._say(f"{self.name}: {error}, at offset {offset}: it is left out")
-            self.state.offset = offset
+            self.say(f"{self.name}: {error}, at offset {offset}: it is left out")
+            self._note_taken(offset, message)
             return
         passed("decoded")
+        self.state.identity = self.state.identity or identity.of_batch(batch)
         is_end = await self._take_batch(batch)
-        self.state.offset = offset
+        self._note_taken(offset, message)
         passed("taken")
         if is_end:
             raise Ended
+
+    def _note_taken(self, offset: int, message: bytes) -> None:
+        self.state.offset, self.state.digest = offset, digest_of(message)
 
     async def _take_batch(self, batch: Batch) -> bool:
         """Carries out the entries that were not seen; whether they end with an end."""
@@ -317,7 +409,7 @@ class Follower:
             self._outbox.send_again()
         is_end = False
         for number, entry in self.state.seen.new_entries(batch):
-            reply = await self._carry_out(entry)
+            reply = await self._carry_out(entry, batch.sender)
             self.state.seen.take(batch.sender, number)
             passed("noted")
             self._reads.changed()
@@ -325,38 +417,93 @@ class Follower:
                 self._reads.raise_floor(self.state.place)
                 self._outbox.came_back(number, reply)
                 passed("answered")
+            # (what is raised of it is raised behind the entry, which is not to be taken twice)
+            if changes(entry):
+                self._report()
             is_end = entry[:1] == EntryKind.END
         return is_end
 
-    async def _carry_out(self, entry: bytes) -> bytes:
+    async def _carry_out(self, entry: bytes, sender: str) -> bytes:
         """Carries out an entry; the status and text of its reply, none of what is no change."""
         if not changes(entry):
-            self._hear(entry)
+            self._hear(entry, sender)
             return b""
+        place = self.state.place + 1
+        if place in self.skips:
+            reply = SKIPPED
+            self.state.skips += (place,)
+            self.line = self.carried = place
+        else:
+            reply = await self._answered(entry, place)
+        self.state.place = place
+        self.state.total = sums.after(self.state.total, entry, reply)
+        return reply
+
+    async def _answered(self, entry: bytes, place: int) -> bytes:
+        """The server's reply to a store or a drop. Raises Halted, ServerEnded."""
+        if why := self._aside.get(place):
+            raise Halted(why)
         if (ends := self._ends.get(self.state.place, 0)) >= VAIN_TRIES:
             raise Halted(f"{ends} servers in turn ended at the next entry")
         passed("sent")
-        reply = await ask(self.backend, entry)
+        self.line = place
+        reply = await ask(self.backend, entry, place)
         passed("replied")
         if reply[0] == Status.WANTING:
-            raise Halted(f"the next entry was answered with {reply[1:].decode()}")
-        self.state.place += 1
-        self.state.total = sums.after(self.state.total, entry, reply)
-        if report := self.agreement.reached(self.state.place, self.state.total):
-            self.state.reports = self.agreement.sums
-            if self.is_reporting:
-                self._outbox.post(report.entry())
+            bound = self.given.memory
+            raise Halted(f"the next entry was answered with {reply[1:].decode()}"
+                         + (f", of which this server may have {shown_size(bound)}"
+                            if bound and reply[1:] == b"memory" else ""))
         return reply
 
-    def _hear(self, entry: bytes) -> None:
-        """Takes a report of another node, or an end. Raises Differs, CannotFollow."""
-        program = entry[1:].decode(errors="replace")
-        if entry[:1] == EntryKind.END and program != self.given.program:
+    def _report(self) -> None:
+        """Reports the sum, where that is due: while this node catches up only what is disputed."""
+        place, state = self.state.place, self.state
+        if self.agreement.reached(place, state.total, state.skips):
+            self.state.reports = self.agreement.sums
+            self._post_report(place)
+
+    def _post_report(self, place: int) -> None:
+        report = self.agreement.own(place)
+        is_wanted = self.is_reporting or self.agreement.is_disputed(place)
+        if report and is_wanted and place not in self._reported:
+            self._reported.add(place)
+            self._outbox.post(report.entry())
+
+    def _hear(self, entry: bytes, sender: str) -> None:
+        """Takes an entry that changes no document. Raises Differs, Tied, CannotFollow, GoBack."""
+        kind = entry[:1]
+        if kind == EntryKind.END:
+            self._check_program(entry[1:].decode(errors="replace"))
+        elif kind == EntryKind.SKIP:
+            self._hear_skip(skipped_place(entry))
+        elif kind == EntryKind.HELLO and self.names:
+            self.names.hear_hello(sender, self.state.seen)
+        elif kind == EntryKind.TAKEN and self.names:
+            self.names.hear_taken(entry[1:].decode(errors="replace"))
+        elif report := Report.of(entry):
+            self._hear_report(report)
+
+    def _hear_report(self, report: Report) -> None:
+        try:
+            if said := self.agreement.hear(report):
+                self.say(said)
+        finally:
+            # (two that differ wait for what a third one says, also where it comes later)
+            if self.agreement.is_disputed(report.place):
+                self._post_report(report.place)
+
+    def _check_program(self, program: str) -> None:
+        if program != self.given.program:
             raise CannotFollow(f"all nodes ended here that ran the program {program}, and this is "
                                f"{self.given.program}: begin from a snapshot of this place")
-        report = Report.of(entry) if entry[:1] == EntryKind.REPORT else None
-        if report and (said := self.agreement.hear(report)):
-            self._say(said)
+
+    def _hear_skip(self, place: int | None) -> None:
+        if place is None or place > self.state.place or place in self.state.skips:
+            return
+        self.skips.add(place)
+        raise GoBack(f"place {place:,} is skipped by all nodes, and was carried out here: the "
+                     "documents begin again from before it")
 
     async def end(self) -> None:
         """Ends the server in order, and notes beside its file where it stands."""

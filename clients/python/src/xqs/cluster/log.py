@@ -21,7 +21,11 @@ class Log(Protocol):
 
     @property
     def is_up(self) -> bool:
-        """Whether the log can be reached now."""
+        """Whether the log can be written now."""
+
+    @property
+    def is_read(self) -> bool:
+        """Whether the log can be read now."""
 
     async def publish(self, message: bytes) -> None:
         """Adds a message; comes back once it is kept by a majority.
@@ -36,11 +40,17 @@ class Log(Protocol):
         has the log's name is no log.
         """
 
-    async def first_offset(self) -> int:
-        """The offset of the oldest message that the log has. Raises Away."""
+    async def first_message(self) -> tuple[int, bytes]:
+        """The oldest message that the log has, with its offset. Raises Away."""
 
     async def end_offset(self) -> int:
         """The offset of a message that is added now. Raises Away."""
 
-    def drop(self, why: str) -> None:
-        """Gives up the connection at hand, so that another one is made."""
+    async def copies(self) -> dict[str, bool | None]:
+        """Of each place that keeps the log whether it has a copy; None where it does not answer."""
+
+    def drop_reading(self, why: str) -> None:
+        """Gives up the connection by which messages come, so that another one is made."""
+
+    def drop_writing(self, why: str) -> None:
+        """Gives up the connection by which messages go, so that another one is made."""

@@ -3,6 +3,7 @@
 import argparse
 import asyncio
 import contextlib
+import dataclasses
 import pathlib
 import re
 import socket
@@ -10,13 +11,14 @@ import sys
 from collections.abc import Sequence
 from functools import partial
 
-from xqs import listening, mux
+from xqs import bounds, listening, mux
 from xqs.cli import connection_options
-from xqs.cluster import control
-from xqs.cluster.addresses import VARIABLE, LogAddress, given_log
+from xqs.cluster import control, health, operating
+from xqs.cluster.addresses import VARIABLE, LogAddress, check_ways, given_log
 from xqs.cluster.agreement import EVERY
 from xqs.cluster.node import Node, Options
-from xqs.cluster.program import name_of
+from xqs.cluster.program import name_of_running
+from xqs.cluster.status import status_of
 from xqs.errors import XqError
 from xqs.multiplexer import is_on_file
 from xqs.mux_clients import Settings
@@ -24,29 +26,38 @@ from xqs.mux_clients import Settings
 USAGE = ("xqs node --log amqp://HOST/NAME[,..] --listen unix:PATH|tcp:PORT [OPTIONS] "
          "[-- COMMAND [WORDS]]")
 DEFAULTS = Settings(client_window=64)
+SERVERS = 2
+"""Servers of a node where nothing else is said: one may be held, or take a snapshot."""
 _NAME = re.compile(r"[A-Za-z0-9._-]{1,60}")
 
 say = partial(mux.say, command="node")
 
 
-async def run(address: LogAddress, place: str, options: Options, settings: Settings) -> int:
+async def run(address: LogAddress, place: str, options: Options, settings: Settings,
+              http: str | None = None) -> int:
     """Runs a node until a signal, or until it ends by itself; gives the exit status.
 
     Raises PlaceError, StartFailed, CannotFollow, and what else keeps it from beginning.
     """
     # (here, so that all else works where the package is not installed)
-    from xqs.cluster.amqp import AmqpLog, quiet
+    from xqs.cluster.amqp import AmqpLog
+    from xqs.cluster.amqp_link import quiet
 
     quiet()
     asyncio.get_running_loop().set_exception_handler(_on_fault)
+    options = dataclasses.replace(
+        options, program=options.program or await name_of_running(options.command))
+    say(f"node {options.name}, program {options.program}")
     log = AmqpLog(address, say)
     node = Node(options, log, settings, say)
     log.came_up = node.outbox.send_again
     again = asyncio.Event()
     helpers = [asyncio.create_task(it) for it in (log.run(), node.abandon_when(again))]
     try:
-        await _serve(node, place, options, again)
-        await node.stop()
+        async with contextlib.AsyncExitStack() as stack:
+            await _answer_operators(node, http, stack)
+            await _serve(node, place, again)
+            await node.stop()
     except BaseException:
         await node.abandon()
         raise
@@ -58,7 +69,42 @@ async def run(address: LogAddress, place: str, options: Options, settings: Setti
     return node.status
 
 
-async def _serve(node: Node, place: str, options: Options, again: asyncio.Event) -> None:
+async def _answer_operators(node: Node, http: str | None, stack: contextlib.AsyncExitStack
+                            ) -> None:
+    """Answers what operators and load balancers ask, from before the node follows the log."""
+    if node.options.snapshots:
+        path = control.control_path(node.options.snapshots)
+        asked = listening.listen_unix(str(path))
+        stack.enter_context(listening.removed_at_end(asked))
+        controls = await asyncio.start_unix_server(
+            partial(control.serve, _actions(node)), sock=asked)
+        stack.callback(controls.close)
+    if http:
+        listener = health.listener_at(http)
+        served = await asyncio.start_server(
+            partial(health.serve, partial(status_of, node)), sock=listener)
+        stack.callback(served.close)
+        say(f"/health and /metrics are at http://{listening.name_of(listener)[4:]}/")
+
+
+def _actions(node: Node) -> dict[str, control.Action]:
+
+    async def snapshot(_: str) -> str:
+        return await node.take_snapshot()
+
+    async def end(_: str) -> str:
+        return await node.end_all()
+
+    async def status(_: str) -> str:
+        return status_of(node).to_json()
+
+    async def skip(place: str) -> str:
+        return await node.skip(int(place))
+
+    return {"snapshot": snapshot, "end": end, "status": status, "skip": skip}
+
+
+async def _serve(node: Node, place: str, again: asyncio.Event) -> None:
     """Begins, and then takes clients, until a signal or until the node ends by itself."""
     listener = listening.listen(place)
     with contextlib.ExitStack() as stack:
@@ -71,7 +117,7 @@ async def _serve(node: Node, place: str, options: Options, again: asyncio.Event)
             if starting.done():
                 await starting
             if not ended.done() and not node.failed.is_set():
-                await _take_clients(node, listener, options, stack)
+                await _take_clients(node, listener, stack)
             await ended
         finally:
             ended.cancel()
@@ -80,17 +126,10 @@ async def _serve(node: Node, place: str, options: Options, again: asyncio.Event)
 
 
 async def _take_clients(
-    node: Node, listener: socket.socket, options: Options, stack: contextlib.ExitStack
+    node: Node, listener: socket.socket, stack: contextlib.ExitStack
 ) -> None:
     server = await asyncio.start_server(node.serve, sock=listener)
     stack.callback(server.close)
-    if options.snapshots:
-        path = control.control_path(options.snapshots)
-        asked = listening.listen_unix(str(path))
-        stack.enter_context(listening.removed_at_end(asked))
-        actions = {"snapshot": node.take_snapshot, "end": node.end_all}
-        controls = await asyncio.start_unix_server(partial(control.serve, actions), sock=asked)
-        stack.callback(controls.close)
     say(f"follows the log, and listens at {listening.name_of(listener)}")
 
 
@@ -113,6 +152,12 @@ def main(words: Sequence[str]) -> int:
     before, after = mux.split_command(words)
     parser = _parser()
     given = parser.parse_args(before)
+    if operating.asks(given):
+        return operating.answer(given, given_log(given.log) if given.copies else None)
+    if not given.listen:
+        parser.error("the following arguments are required: --listen")
+    address = given_log(given.log)
+    check_ways(address, given.plain)
     file, given.file = given.file, None
     command = mux.command_of(after, given)
     if is_on_file(command):
@@ -127,11 +172,11 @@ def main(words: Sequence[str]) -> int:
             + ("after an end that was not in order " if file else "")
             + "carries out the log from its beginning")
     options = Options(
-        given.name, command, given.program or name_of(command), given.servers,
-        pathlib.Path(file) if file else None, folder, given.every, given.seconds, given.fresh)
-    say(f"node {options.name}, program {options.program}")
+        given.name, command, given.program or "", given.servers,
+        pathlib.Path(file) if file else None, folder, given.every, given.seconds, given.fresh,
+        given.memory // given.servers if given.memory else None)
     return asyncio.run(
-        run(given_log(given.log), given.listen, options, mux.client_settings_of(given)))
+        run(address, given.listen, options, mux.client_settings_of(given), given.http))
 
 
 def _parser() -> argparse.ArgumentParser:
@@ -142,23 +187,35 @@ def _parser() -> argparse.ArgumentParser:
     option = parser.add_argument
     option("--log", metavar="amqp://HOST/NAME[,..]",
            help=f"the brokers that keep the log, and its name; else ${VARIABLE}")
-    option("--listen", required=True, metavar="unix:PATH|tcp:PORT", help="where clients connect")
+    option("--listen", metavar="unix:PATH|tcp:PORT", help="where clients connect")
     option("--name", default=socket.gethostname(), metavar="NAME",
            help="how others call this node; each has another one (%(default)s)")
     option("--snapshots", type=pathlib.Path, metavar="DIR",
            help="the folder of this node's snapshots, from which it begins")
     option("--every", type=mux.positive, default=Options.every, metavar="N",
            help="stores and drops between two snapshots (%(default)s)")
-    option("--servers", type=mux.positive, default=1, metavar="N",
-           help="servers of this node, so that so many reads run side by side (%(default)s)")
+    option("--servers", type=mux.positive, default=SERVERS, metavar="N",
+           help="servers of this node, so that so many reads run side by side, and that one takes "
+           "a snapshot while others go on (%(default)s)")
     option("--seconds", type=mux.duration, default=Options.seconds, metavar="S",
-           help="how long a store or drop waits while nothing comes from the log, before its "
-           "client's stream is ended, which says that it is unknown (%(default)g)")
+           help="how long a request may hold a server, before that is ended and the request is "
+           "refused as xqs:SECONDS; and how long a store or drop waits while nothing comes from "
+           "the log, before its client's stream is ended, which says that it is unknown "
+           "(%(default)g)")
+    option("--memory", type=bounds.memory_of, metavar="SIZE", default=bounds.half_of_memory(),
+           help="how much memory all servers of this node may have together, as 8G (half of this "
+           f"machine's, {bounds.shown_size(bounds.half_of_memory())}; 0: any)")
     option("--fresh", action="store_true",
            help="each read sees all that the log held when it was asked")
     option("--program", metavar="TEXT",
-           help=f"what names the server's program, which nodes compare every {EVERY} places; else "
-           "its commit, or the checksum of its file")
+           help=f"what names the server's program, which nodes tell each other every {EVERY} "
+           "places; else the checksum of its bytes")
+    option("--http", metavar="[HOST:]PORT",
+           help="where HTTP has /health, /metrics and /status of this node, which anybody may read "
+           "who can connect")
+    option("--plain", action="store_true",
+           help="take brokers of other machines without TLS too, on a network that is yours alone")
+    operating.add_options(parser)
     mux.add_client_limits(parser, DEFAULTS)
     return parser
 

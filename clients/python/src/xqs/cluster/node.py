@@ -3,31 +3,37 @@
 import asyncio
 import contextlib
 import os
+import time
 import weakref
 from collections.abc import Callable, Sequence
 from dataclasses import dataclass
 from functools import partial
 from pathlib import Path
 
+from xqs.cluster import aside, identity, trials, watches
 from xqs.cluster.agreement import Differs
 from xqs.cluster.batches import EntryKind
 from xqs.cluster.follower import Ended, Follower, Given
 from xqs.cluster.log import Log
+from xqs.cluster.names import Names
 from xqs.cluster.outbox import Outbox, Pending, Unknown
 from xqs.cluster.reads import WANTING_STORE, Reads
 from xqs.cluster.store_file import StoreFile
-from xqs.cluster.upkeep import renew, take_snapshot, wants_renewal
+from xqs.cluster.upkeep import take_snapshot
 from xqs.errors import XqError
 from xqs.mux_clients import Clients, Settings
 from xqs.mux_peer import Peer, Request
 from xqs.waiting import cancelled
 
-IDLE = 4.0
-"""Seconds without a message of the log after which a mark is written, to see that it comes."""
-SILENT = 12.0
-"""Seconds without a message, one's own mark too, after which another broker is tried."""
-LOOK = 0.5
-"""Seconds between two looks at what is due."""
+NEAR = 2.0
+"""Seconds in which a mark of a node comes back that has caught up."""
+CLAIM = 0.5
+"""Seconds in which a node of the same name may refuse this one, before it takes clients."""
+ENDING, DRAINING = 4.5, 2.0
+"""Seconds for an end in order, and of these for what clients wait for."""
+COMING_UP, SHORT = 5.0, 0.02
+"""Seconds in which the server that is to take a snapshot may come as far as the others, and those
+between two looks."""
 READS_OF_ONE = 16
 """So many reads of one server wait for their replies where there is one; else one of each, so that
 a query that never ends holds no other."""
@@ -37,7 +43,8 @@ a query that never ends holds no other."""
 class Options:
     """What a node is given: its name, the command of its servers and the program that it runs, how
     many there are, their files, the folder of snapshots and the places between two of them, how
-    long a write waits for the log, and whether reads see all that the log held."""
+    long a request may hold a server and a write waits for the log, whether reads see all that the
+    log held, and the memory that each server may have."""
 
     name: str
     command: Sequence[str]
@@ -48,6 +55,7 @@ class Options:
     every: int = 10_000
     seconds: float = 30.0
     is_fresh: bool = False
+    memory: int | None = None
 
 
 class Node:
@@ -59,9 +67,9 @@ class Node:
 
     def __init__(self, options: Options, log: Log, settings: Settings,
                  say: Callable[[str], None]) -> None:
-        self._options = options
-        self._log = log
-        self._say = say
+        self.options = options
+        self.log = log
+        self.say = say
         self.outbox = Outbox(f"{options.name}/{os.urandom(6).hex()}", log, options.seconds)
         self.reads = Reads(READS_OF_ONE if options.servers == 1 else 1)
         self.followers = [self._follower(number) for number in range(options.servers)]
@@ -70,13 +78,17 @@ class Node:
         self.serve = self._clients.serve
         self._writes: weakref.WeakKeyDictionary[Peer, Pending] = weakref.WeakKeyDictionary()
         self._tasks: list[asyncio.Task[None]] = []
-        self._snapshot_place = 0
-        self._is_caught_up = False
+        self.snapshot_place = 0
+        self.names = Names(self.outbox, self._refuse_name)
+        self.copies: dict[str, bool | None] = {}
+        self.end = -1
+        self.snapshot_time: float | None = None
+        self.is_caught_up = self._is_stopping = False
         self.failed = asyncio.Event()
         self.status = 0
 
     def _follower(self, number: int) -> Follower:
-        options = self._options
+        options = self.options
         name = options.name if options.servers == 1 else f"{options.name}.{number + 1}"
         command, file = list(options.command), None
         if options.file:
@@ -84,8 +96,9 @@ class Node:
             path = options.file.with_name(options.file.name + end)
             command += ["--file", str(path)]
             file = StoreFile(path.absolute())
-        given = Given(name, command, options.program, file, options.snapshots)
-        return Follower(given, self._log, self.outbox, self.reads, self._say)
+        given = Given(name, options.name, command, options.program, file, options.snapshots,
+                      options.memory)
+        return Follower(given, self.log, self.outbox, self.reads, self.say)
 
     async def start(self) -> None:
         """Starts the servers, and follows the log up to what it held as this was called.
@@ -94,9 +107,13 @@ class Node:
         errors of a restore; `failed` is set where the log can't be followed so far.
         """
         await asyncio.gather(*(it.begin() for it in self.followers))
-        self._snapshot_place = self.followers[0].state.place
-        work = [self.outbox.run(), self._watch_silence(), self._watch_due(),
-                self._clients.watch_unread()]
+        self.snapshot_place = self.followers[0].state.place
+        if not all(it.state.identity for it in self.followers):
+            self.outbox.post(identity.new_entry())
+        for follower in self.followers:
+            follower.names = self.names
+        self.names.greet()
+        work = [self.outbox.run(), *watches.of(self), self._clients.watch_unread()]
         self._tasks = [asyncio.create_task(it) for it in work]
         self._tasks += [asyncio.create_task(self._run(it)) for it in self.followers]
         for task in self._tasks:
@@ -109,20 +126,34 @@ class Node:
             self._fail(f"a fault of xqs node: {error!r}", 1)
 
     async def _catch_up(self) -> None:
-        """Waits until a mark of this node has come back, or the node fails."""
-        while not self.failed.is_set():
-            mark = self.outbox.mark()
-            failed = asyncio.create_task(self.failed.wait())
-            await asyncio.wait((mark.done, failed), return_when=asyncio.FIRST_COMPLETED)
-            failed.cancel()
-            if mark.done.done() and not mark.done.exception():
+        """Waits until a mark of this node comes back soon, or the node fails: while one comes back
+        late, others have written on."""
+        loop = asyncio.get_running_loop()
+        begin = loop.time()
+        while not self.failed.is_set() and self.follows():
+            posted = loop.time()
+            if not await self._comes_back(self.outbox.mark()):
+                if self.follows() and not self.failed.is_set():
+                    self.say("waits for the log")
+            elif loop.time() - posted <= NEAR or loop.time() - begin > self.options.seconds * 4:
                 self._note_caught_up()
+                with contextlib.suppress(TimeoutError):
+                    await asyncio.wait_for(self.failed.wait(), CLAIM)
                 return
-            if not self.failed.is_set():
-                self._say("waits for the log")
+
+    async def _comes_back(self, mark: Pending) -> bool:
+        """Waits until a mark comes back, or is given up, or the node fails; whether it did."""
+        failed = asyncio.create_task(self.failed.wait())
+        await asyncio.wait((mark.done, failed), return_when=asyncio.FIRST_COMPLETED)
+        failed.cancel()
+        return mark.done.done() and not mark.done.exception()
+
+    def _refuse_name(self) -> None:
+        self._fail(f"another node of the name {self.options.name} follows this log: give each a "
+                   "name of its own (--name)", 1)
 
     def _note_caught_up(self) -> None:
-        self._is_caught_up = True
+        self.is_caught_up = True
         for follower in self.followers:
             follower.is_reporting = True
 
@@ -130,48 +161,59 @@ class Node:
         """Has a server follow the log; the node ends where it must not go on."""
         try:
             await follower.run()
-            self._note_halt()
-            await follower.rest()
+            self._note_halt(follower)
+            while await follower.rest():
+                self._note_caught_up()
+                await follower.run()
+                self._note_halt(follower)
         except Ended:
             await self._end_for_all(follower)
         except Differs as error:
-            self._fail(f"this node differs from others, and stops: {error}", 1)
+            await self._end_one(follower, f"differs from others, and stops: {error}")
         except (XqError, OSError, ValueError) as error:
-            follower.is_ready, follower.is_ended = False, True
-            self._say(f"{follower.name}: {error}")
+            await self._end_one(follower, str(error))
         if all(it.is_ended for it in self.followers):
             self._fail("no server is left", 1)
         self.reads.changed()
 
-    def _note_halt(self) -> None:
+    async def _end_one(self, follower: Follower, why: str) -> None:
+        """Ends a server that must not go on; the others do."""
+        await follower.give_up()
+        if all(it.is_ended for it in self.followers):
+            self._fail(f"{self.options.name} {why}", 1)
+        else:
+            self.say(f"{follower.name} {why}")
+
+    def _note_halt(self, follower: Follower) -> None:
         """A server halted: where it was the last one, nobody's write is answered any more."""
-        if not self._follows():
+        if not self.follows():
             self.outbox.give_up_all()
-            if not self._is_caught_up:
+            if not self.is_caught_up and not follower.may_return:
                 self._fail("the node can't begin", 1)
 
     def _fail(self, why: str, status: int) -> None:
         if not self.failed.is_set():
-            self._say(why)
+            self.say(why)
             self.status = status
             self.failed.set()
             self.outbox.give_up_all()
 
     async def _end_for_all(self, follower: Follower) -> None:
         """The log says that all nodes end here: the first server takes a snapshot of it."""
-        self._say(f"{follower.name}: all nodes end here, at {follower.state}")
+        self.say(f"{follower.name}: all nodes end here, at {follower.state}")
         is_first = not any(it.is_done for it in self.followers)
         follower.is_done = True
         try:
-            if self._options.snapshots and is_first:
-                self._say(await take_snapshot(follower))
-                self._snapshot_place = follower.state.place
+            if self.options.snapshots and is_first:
+                self.say(await take_snapshot(follower))
+                self._note_snapshot(follower.state.place)
         except (XqError, OSError, ValueError) as error:
-            self._say(f"no snapshot: {error}")
+            self.say(f"no snapshot: {error}")
         if all(it.is_done or it.halted for it in self.followers):
             self._fail("the node ends where all nodes do", 0)
 
-    def _follows(self) -> bool:
+    def follows(self) -> bool:
+        """Whether a server of this node still follows the log."""
         return any(not it.halted and not it.is_ended for it in self.followers)
 
     async def _handle(self, request: Request) -> None:
@@ -183,12 +225,30 @@ class Node:
 
     async def _write(self, request: Request) -> None:
         assert request.peer is not None
-        if not self._follows() or self.failed.is_set():
-            request.peer.answer(request, WANTING_STORE)
+        refused = WANTING_STORE if self._is_cut_off() else await self._tried(request)
+        if refused or self._is_cut_off():
+            request.peer.answer(request, refused or WANTING_STORE)
             return
         pending = await self.outbox.put(request.payload)
         self._writes[request.peer] = pending
         pending.done.add_done_callback(partial(self._written, request))
+
+    def _is_cut_off(self) -> bool:
+        return not self.follows() or self.failed.is_set()
+
+    async def _tried(self, request: Request) -> bytes | None:
+        """Asks the query of a store as a query first, once the client's own writes before it are
+        answered; the reply by which it is refused."""
+        query = trials.query_of(request)
+        if query is None:
+            return None
+        await self._own_writes_of(request)
+        return await trials.refusal_of(query, self.reads.ask)
+
+    async def _own_writes_of(self, request: Request) -> None:
+        """Waits until this client's own writes before the request are answered."""
+        if request.peer and (before := self._writes.get(request.peer)):
+            await asyncio.wait((before.done,))
 
     @staticmethod
     def _written(request: Request, done: "asyncio.Future[bytes]") -> None:
@@ -205,16 +265,15 @@ class Node:
     async def _read(self, request: Request) -> None:
         """Hands a read to a server, once this client's own writes before it are answered."""
         assert request.peer is not None
-        if before := self._writes.get(request.peer):
-            await asyncio.wait((before.done,))
-        if self._options.is_fresh and not await self._has_all():
+        await self._own_writes_of(request)
+        if self.options.is_fresh and not await self._has_all():
             request.peer.answer(request, WANTING_STORE)
             return
         await self.reads.send(request)
 
     async def _has_all(self) -> bool:
         """Waits until a server has carried out all that the log holds now; whether one could."""
-        if not self._follows():
+        if not self.follows():
             return False
         try:
             await asyncio.shield(self.outbox.mark().done)
@@ -224,68 +283,87 @@ class Node:
 
     async def end_all(self) -> str:
         """Has all nodes that follow the log end at the same place; what is to be said of it."""
-        entry = EntryKind.END.value + self._options.program.encode()
+        entry = EntryKind.END.value + self.options.program.encode()
         await (await self.outbox.put(entry)).done
         return "all nodes take a snapshot and end"
 
+    async def skip(self, place: int) -> str:
+        """Has all nodes skip the place at which a server of this one stepped aside."""
+        held = [it for it in self.followers if it.may_return and it.state.place + 1 == place]
+        if not held:
+            raise XqError(f"no server of this node has stepped aside at place {place:,}")
+        self.outbox.post(aside.skip_entry(place))
+        for _ in range(100):
+            await asyncio.sleep(0.1)
+            if not any(it.may_return and it.state.place + 1 == place for it in held):
+                return f"all nodes skip place {place:,}"
+        raise XqError("the log has not brought it back in 10 seconds: it may be skipped later")
+
     async def take_snapshot(self) -> str:
-        """Takes a snapshot, by the server that is furthest; what is to be said of it."""
+        """Takes a snapshot of all that is carried out so far, or later; what is to be said of it.
+
+        It is taken by a server that is not the first one, where there is another, once that has
+        come as far: who answers writes meanwhile is then never one that has to come up first.
+        """
         able = [it for it in self.followers if it.is_ready and not it.halted]
         if not able:
             raise XqError("no server of this node follows the log")
-        # (one that lags would hold itself up; one that is at a long query would wait for that)
-        furthest = max(able, key=lambda it: (it.state.place, -len(it.reading)))
-        said = await take_snapshot(furthest)
-        self._snapshot_place = max(self._snapshot_place, furthest.state.place)
+        place = max(it.state.place for it in able)
+        chosen = self._for_snapshot(able)
+        for _ in range(round(COMING_UP / SHORT)):
+            if chosen.state.place >= place or self._is_stopping:
+                break
+            await asyncio.sleep(SHORT)
+        if chosen.state.place < place:
+            chosen = max(able, key=lambda it: it.state.place)
+        said = await take_snapshot(chosen)
+        self._note_snapshot(chosen.state.place)
         return said
 
-    async def _watch_due(self) -> None:
-        """Takes snapshots, and starts servers again before their limit of frames."""
-        while True:
-            await asyncio.sleep(LOOK)
-            try:
-                if due := next(filter(wants_renewal, self.followers), None):
-                    await renew(due)
-                if self._is_snapshot_due():
-                    self._say(await self.take_snapshot())
-            except (XqError, OSError, ValueError) as error:
-                self._say(f"no snapshot: {error}")
-                self._snapshot_place = max(it.state.place for it in self.followers)
+    @staticmethod
+    def _for_snapshot(able: Sequence[Follower]) -> Follower:
+        """The server for a snapshot: one at a query would have it wait for that."""
+        idle = [it for it in able if not it.reading] or able
+        return min(idle, key=lambda it: it.state.place)
 
-    def _is_snapshot_due(self) -> bool:
-        place = max(it.state.place for it in self.followers)
-        return bool(self._options.snapshots) and (
-            place - self._snapshot_place >= self._options.every and self._follows())
-
-    async def _watch_silence(self) -> None:
-        """Writes a mark where nothing comes, and tries another broker where that does not come."""
-        while True:
-            await asyncio.sleep(LOOK)
-            now = asyncio.get_running_loop().time()
-            waited = [now - it.waits_since for it in self.followers if it.waits_since is not None]
-            if not self._log.is_up or not waited or max(waited) < IDLE:
-                continue
-            if max(waited) >= SILENT:
-                self._log.drop(f"nothing came for {SILENT:g} seconds")
-                self._forget_waits()
-            elif not len(self.outbox):
-                self.outbox.mark()
-
-    def _forget_waits(self) -> None:
-        for follower in self.followers:
-            follower.waits_since = None
+    def _note_snapshot(self, place: int) -> None:
+        """Notes a snapshot of the place."""
+        self.snapshot_place = max(self.snapshot_place, place)
+        self.snapshot_time = time.time()
 
     async def stop(self) -> None:
-        """Answers the frames that were read, ends the clients and then the servers in order."""
-        await self._clients.drain()
+        """Answers the frames that were read, ends the clients and then the servers in order.
+
+        What takes too long is ended at once: a node ends within some seconds, whatever holds it.
+        """
+        until = asyncio.get_running_loop().time() + ENDING
+        await self._drain()
+        try:
+            async with asyncio.timeout_at(until):
+                await self._end_in_order()
+        except TimeoutError:
+            self.say("the servers are ended at once, since one is held")
+            await self.abandon()
+
+    async def _drain(self) -> None:
+        """Answers the frames that were read, as far as that is soon."""
+        draining = asyncio.create_task(self._clients.drain())
+        await asyncio.wait((draining,), timeout=DRAINING)
+        if not draining.done():
+            self.say(f"clients still wait after {DRAINING:g} seconds: their streams are ended")
+            self._clients.cut_all()
+            await asyncio.wait((draining,), timeout=DRAINING / 4)
+        await cancelled(draining)
+
+    async def _end_in_order(self) -> None:
         async with contextlib.AsyncExitStack() as stack:
             # (nobody is to be stopped within an entry)
             for follower in self.followers:
                 await stack.enter_async_context(follower.between)
             await cancelled(*self._tasks)
+            self._is_stopping = True
         await self._take_last_snapshot()
-        for follower in self.followers:
-            await self._end(follower)
+        await asyncio.gather(*map(self._end, self.followers))
 
     async def _end(self, follower: Follower) -> None:
         if follower.is_ended:
@@ -293,16 +371,16 @@ class Node:
         try:
             await follower.end()
         except (XqError, OSError, ValueError) as error:
-            self._say(f"{follower.name}: {error}")
+            self.say(f"{follower.name}: {error}")
 
     async def _take_last_snapshot(self) -> None:
         """At an end in order, where the documents are in memory and changed since the last one."""
         place = max(it.state.place for it in self.followers)
-        if self._options.snapshots and not self._options.file and place > self._snapshot_place:
+        if self.options.snapshots and not self.options.file and place > self.snapshot_place:
             try:
-                self._say(await self.take_snapshot())
+                self.say(await self.take_snapshot())
             except (XqError, OSError, ValueError) as error:
-                self._say(f"no snapshot: {error}")
+                self.say(f"no snapshot: {error}")
 
     async def abandon_when(self, event: asyncio.Event) -> None:
         """Waits for an event, and then ends the servers and the clients at once."""

@@ -4,8 +4,9 @@ import asyncio
 import collections
 import time
 
-from xqs.cluster.batches import MARK, Batch, encode, fitting
-from xqs.cluster.log import Away, Log
+from xqs.cluster.batches import MARK, Batch, EntryKind, changes, encode, fitting
+from xqs.cluster.limits import NoAnswer, within
+from xqs.cluster.log import Log
 from xqs.cluster.steps import passed
 from xqs.errors import XqError
 
@@ -15,8 +16,10 @@ HELD_BYTES = 64 << 20
 """So many bytes of entries are on their way at once; clients with more of them wait."""
 SWEEP = 0.1
 """Seconds between two looks at what has waited too long."""
-CONFIRMATION = 10.0
+CONFIRMATION = 6.0
 """Seconds for which a confirmation is awaited before another broker is tried."""
+AGAIN = 0.5
+"""Seconds before a message is sent again that the log did not take."""
 
 
 class Unknown(XqError):
@@ -93,6 +96,12 @@ class Outbox:
         self._work.set()
         return pending
 
+    def lag(self) -> float:
+        """For how many seconds the oldest entry that was put has not come back."""
+        for pending in self._pending.values():
+            return max(0.0, time.monotonic() - (pending.until - self._seconds))
+        return 0.0
+
     def mark(self) -> Pending:
         """A mark behind all entries that were put so far; one that was not sent yet is shared."""
         last = self._pending.get(self._next - 1)
@@ -151,17 +160,22 @@ class Outbox:
         return True
 
     async def _send(self, batch: Batch) -> None:
-        """Sends a message; where that fails, it is sent again when the log is back."""
+        """Sends a message; where that fails, it is sent again when the log takes messages."""
         try:
             passed("published")
-            await asyncio.wait_for(self._log.publish(encode(batch)), CONFIRMATION)
+            await within(CONFIRMATION, self._log.publish(encode(batch)))
             passed("confirmed")
-        except Away:
-            pass
-        except TimeoutError:
-            self._log.drop(f"no confirmation for {CONFIRMATION:g} seconds")
+        except NoAnswer:
+            self._log.drop_writing(f"no confirmation for {CONFIRMATION:g} seconds")
+        except (XqError, OSError, RuntimeError):
+            asyncio.get_running_loop().call_later(AGAIN, self._send_again_if_up)
         finally:
             self._free.release()
+
+    def _send_again_if_up(self) -> None:
+        """The log refused a message, and may still be there: nothing else sends it again then."""
+        if self._log.is_up:
+            self.send_again()
 
     def stir(self) -> None:
         """Something of the log was carried out: the wait for what is behind it begins anew."""
@@ -186,6 +200,8 @@ class Outbox:
 
     def _give_up(self, pending: Pending) -> None:
         if not pending.done.done():
-            self._make_room(len(pending.entry) - len(MARK))
-            pending.entry = MARK
+            # (what the node says of itself is told late rather than never)
+            if changes(pending.entry) or pending.entry[:1] == EntryKind.END:
+                self._make_room(len(pending.entry) - len(MARK))
+                pending.entry = MARK
             pending.done.set_exception(Unknown("the log did not bring it back in time"))

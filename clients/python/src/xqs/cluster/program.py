@@ -1,70 +1,84 @@
-"""Which program a server's command runs: nodes of two programs don't follow one log."""
+"""Which program a server's command runs: the one whose bytes answer, whatever stands before it."""
 
+import asyncio
 import hashlib
+import os
 import re
-import shutil
-import subprocess
 from collections.abc import Sequence
 from pathlib import Path
 
 from xqs.errors import XqError
+from xqs.mux_backend import Backend
 
-_RELEASE = re.compile(r"xq_server, commit ([0-9a-f]{7,40})\b")
 SHOWN = 16
 """So many digits of a checksum name a program."""
+_INTERPRETERS = re.compile(r"(python|perl|ruby|node|bash|dash|sh|busybox)[0-9.]*")
+"""Programs of which the bytes say nothing: the file that they run does."""
 
 
 class NoProgram(XqError):
-    """A command that names no file."""
+    """A command whose program can't be read."""
 
 
-def name_of(command: Sequence[str]) -> str:
-    """The program's commit, or the checksum of its file where no commit is known.
-
-    A commit is known of a release, and of a checkout; where the sources of that were changed since,
-    a checksum of the changes stands with it. What `--unproved` runs is another program than the
-    proved one. Raises NoProgram.
-    """
-    found = shutil.which(command[0])
-    if not found:
-        raise NoProgram(f"there is no program {command[0]}")
-    path = Path(found).resolve()
-    commit = None
-    if path.name == "serve":
-        commit = _release_commit(path.parent) or _checkout_commit(path.parent)
-    kind = "unproved " if "--unproved" in command else ""
-    return f"{kind}commit {commit}" if commit else f"{kind}checksum {_checksum(path)[:SHOWN]}"
-
-
-def _release_commit(folder: Path) -> str | None:
+async def name_of_running(command: Sequence[str]) -> str:
+    """The checksum of the program that answers where the command is run, behind scripts and other
+    programs that start it. Raises StartFailed, NoProgram."""
+    backend = await Backend.start(command, lambda request, reply: None, None)
     try:
-        found = _RELEASE.search((folder / "RELEASE.txt").read_text(errors="replace"))
-    except OSError:
-        return None
-    return found[1] if found else None
+        return await asyncio.to_thread(name_of_process, _last_child(backend.process.pid))
+    finally:
+        backend.kill()
+        await backend.ended.wait()
 
 
-def _checkout_commit(folder: Path) -> str | None:
-    """The last commit of a checkout that changed the sources, and a checksum of what was changed
-    since; None where it is none."""
-    sources = ["crates", "crates.txt"]
-    commit = _git(folder, "log", "-1", "--format=%H", "--", *sources)
-    changed = _git(folder, "status", "--porcelain", "--", *sources)
-    if not commit or not changed:
-        return commit
-    changes = changed + (_git(folder, "diff", "HEAD", "--", *sources) or "")
-    return f"{commit}, changed ({hashlib.sha256(changes.encode()).hexdigest()[:SHOWN]})"
-
-
-def _git(folder: Path, *words: str) -> str | None:
+def name_of_process(process: int) -> str:
+    """The checksum of what a process runs. NoProgram."""
     try:
-        done = subprocess.run(["git", "-C", str(folder), *words], capture_output=True, text=True,
-                              check=False)
+        digest = hashlib.sha256(Path(f"/proc/{process}/exe").read_bytes())
+        if script := _script(process):
+            digest.update(script.read_bytes())
+    except OSError as error:
+        raise NoProgram(f"the server's program can't be read ({error}): name it by --program"
+                        ) from error
+    return f"checksum {digest.hexdigest()[:SHOWN]}"
+
+
+def _last_child(process: int) -> int:
+    """The process at the end of the line that a process started."""
+    while children := _children(process):
+        process = children[-1]
+    return process
+
+
+def _children(process: int) -> list[int]:
+    try:
+        text = Path(f"/proc/{process}/task/{process}/children").read_text()
+        return [int(word) for word in text.split()]
     except OSError:
+        return [it for it in _processes() if _parent(it) == process]
+
+
+def _processes() -> list[int]:
+    return [int(it) for it in os.listdir("/proc") if it.isdigit()]
+
+
+def _parent(process: int) -> int:
+    try:
+        fields = Path(f"/proc/{process}/stat").read_text().rpartition(")")[2].split()
+        return int(fields[1])
+    except (OSError, IndexError, ValueError):
+        return 0
+
+
+def _script(process: int) -> Path | None:
+    """The file that an interpreter runs; None where the process is none."""
+    name = Path(os.readlink(f"/proc/{process}/exe")).name
+    if not _INTERPRETERS.fullmatch(name):
         return None
-    return done.stdout.strip() if done.returncode == 0 else None
-
-
-def _checksum(path: Path) -> str:
-    with open(path, "rb") as file:
-        return hashlib.file_digest(file, "sha256").hexdigest()
+    words = Path(f"/proc/{process}/cmdline").read_bytes().split(b"\0")[1:]
+    folder = Path(f"/proc/{process}/cwd")
+    for word in words:
+        path = folder / os.fsdecode(word)
+        if word and not word.startswith(b"-") and path.is_file():
+            return path
+    return None

@@ -22,17 +22,35 @@ class ServerEnded(Exception):
 
 @dataclasses.dataclass(eq=False, slots=True)
 class Asked(Request):
-    """A request of the node itself; `done` gives the status and text of its reply."""
+    """An entry of the log; `done` gives the status and text of its reply, `place` is its own."""
+
+    place: int = 0
+    done: "asyncio.Future[bytes]" = dataclasses.field(
+        default_factory=lambda: asyncio.get_running_loop().create_future())
+
+
+@dataclasses.dataclass(eq=False, slots=True)
+class Posed(Request):
+    """A read of the node itself; `done` gives the status and text of its reply."""
 
     done: "asyncio.Future[bytes]" = dataclasses.field(
         default_factory=lambda: asyncio.get_running_loop().create_future())
 
 
-async def ask(backend: Backend, payload: bytes) -> bytes:
-    """The status and text of the server's reply to a kind and body. Raises ServerEnded."""
+def give(request: Request, reply: bytes) -> None:
+    """Gives a read its reply, if anybody still waits for it."""
+    if isinstance(request, Posed):
+        if not request.done.done():
+            request.done.set_result(reply)
+    elif request.peer and not request.peer.gone:
+        request.peer.answer(request, reply)
+
+
+async def ask(backend: Backend, entry: bytes, place: int) -> bytes:
+    """The status and text of the server's reply to an entry of the log. Raises ServerEnded."""
     if backend.ended.is_set():
         raise ServerEnded
-    asked = Asked(None, 0, payload)
+    asked = Asked(None, 0, entry, place=place)
     await backend.send(asked)
     return await asked.done
 

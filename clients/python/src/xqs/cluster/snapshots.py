@@ -122,17 +122,23 @@ def judge(path: Path) -> Snapshot:
     return Snapshot(path, state)
 
 
-def newest(folder: Path, say: Callable[[str], None]) -> Snapshot | None:
-    """The newest snapshot of a folder that is whole; each newer one that is not is told."""
-    for path in reversed(_files(folder)):
+def newest(folder: Path, say: Callable[[str], None],
+           fits: Callable[[State], bool] = lambda state: True) -> Snapshot | None:
+    """The newest snapshot of a folder that is whole and fits; each newer one that is not whole is
+    told."""
+    for path in reversed(files(folder)):
         try:
-            return judge(path)
+            found = judge(path)
         except (NoSnapshot, OSError) as error:
             say(f"{path} is left out: {error}")
+            continue
+        if fits(found.state):
+            return found
     return None
 
 
-def _files(folder: Path) -> list[Path]:
+def files(folder: Path) -> list[Path]:
+    """The snapshots of a folder, the oldest first."""
     return sorted(it for it in folder.iterdir() if _NAME.fullmatch(it.name))
 
 
@@ -148,5 +154,5 @@ def restore(client: Client, snapshot: Snapshot) -> int:
 
 def remove_old(folder: Path, kept: int = KEPT) -> None:
     """Removes all snapshots but the newest ones, and what a crash left of others."""
-    for path in [*_files(folder)[:-kept], *folder.glob("*.snapshot.*.part")]:
+    for path in [*files(folder)[:-kept], *folder.glob("*.snapshot.*.part")]:
         path.unlink(missing_ok=True)

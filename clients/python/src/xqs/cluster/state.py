@@ -19,6 +19,8 @@ class State:
     `offset` is that of the last message which was taken, -1 before the first; `place` counts the
     stores and drops that were carried out since the log's beginning, and `total` is their sum.
     `reports` has the last sums that were reported, by place; `program` carried all this out.
+    `identity` names the log, and `digest` tells its message at the offset from another one there;
+    both are empty where they are not known. `skips` are the places that were not carried out.
     """
 
     log: str
@@ -28,6 +30,9 @@ class State:
     total: str = sums.START
     seen: Seen = field(default_factory=Seen)
     reports: dict[int, str] = field(default_factory=dict)
+    identity: str = ""
+    digest: str = ""
+    skips: tuple[int, ...] = ()
 
     def to_json(self) -> str:
         """The state as one line of text."""
@@ -35,6 +40,7 @@ class State:
             "log": self.log, "program": self.program, "offset": self.offset, "place": self.place,
             "sum": self.total, "seen": self.seen.numbers(),
             "reports": {str(place): total for place, total in self.reports.items()},
+            "identity": self.identity, "digest": self.digest, "skips": list(self.skips),
         })
 
     @staticmethod
@@ -44,8 +50,11 @@ class State:
             fields = json.loads(text)
             seen = {str(name): int(number) for name, number in fields["seen"].items()}
             reports = {int(place): str(total) for place, total in fields["reports"].items()}
+            # (what a state of an earlier version does not have is not known)
+            skips = tuple(int(place) for place in fields.get("skips", ()))
             return State(str(fields["log"]), str(fields["program"]), int(fields["offset"]),
-                         int(fields["place"]), str(fields["sum"]), Seen(seen), reports)
+                         int(fields["place"]), str(fields["sum"]), Seen(seen), reports,
+                         str(fields.get("identity", "")), str(fields.get("digest", "")), skips)
         except (ValueError, KeyError, TypeError, AttributeError) as error:
             raise NoState(f"no state of a follower: {text[:80]!r}") from error
 

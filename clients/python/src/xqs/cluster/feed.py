@@ -1,0 +1,128 @@
+"""The messages of the log behind a follower's place, as they come, whatever becomes of brokers."""
+
+import asyncio
+import hashlib
+from collections.abc import AsyncGenerator, Callable
+from contextlib import aclosing
+
+from xqs.cluster import identity
+from xqs.cluster.limits import Pauses
+from xqs.cluster.log import Away, CannotFollow, Log
+from xqs.cluster.state import State
+
+AGAIN, LONGEST_PAUSE = 0.2, 2.0
+"""Seconds before the log is asked again where it could not be read; while it can be reached each
+pause doubles."""
+SILENT = 6.0
+"""Seconds without a message, a mark of this node too, after which messages are asked for anew."""
+AT_ONCE = 5.0
+"""Seconds in which the last message that was taken has to come, where it is asked for again."""
+DIGITS = 16
+
+
+def digest_of(message: bytes) -> str:
+    """What tells a message from others in its place."""
+    return hashlib.sha256(message).hexdigest()[:DIGITS]
+
+
+class Feed:
+    """Messages behind a place, from one beginning to the next.
+
+    Where none comes for too long, or the connection ends, they are asked for anew from the place
+    that was reached, for as long as it takes, and each time the message of that place is compared
+    with the one that was taken there: a log that was made anew has another.
+    """
+
+    def __init__(self, name: str, log: Log, say: Callable[[str], None]) -> None:
+        self._name = name
+        self._log = log
+        self._say = say
+        self._pauses = Pauses(AGAIN, LONGEST_PAUSE)
+        self._silences = 0
+        self._broke: float | None = None
+        self._was_heard = False
+
+    async def messages(self, state: State) -> AsyncGenerator[tuple[int, bytes], None]:
+        """The messages behind a state that goes on as they are taken. Raises CannotFollow."""
+        while True:
+            try:
+                async with aclosing(self._once(state)) as messages:
+                    async for offset, message in messages:
+                        yield offset, message
+            except Away as error:
+                self._note_break(str(error), state)
+                if self._log.is_read:
+                    await self._pauses.pause()
+                else:
+                    await asyncio.sleep(AGAIN)
+
+    async def _once(self, state: State) -> AsyncGenerator[tuple[int, bytes], None]:
+        """The messages until one is missed. Raises Away then, and CannotFollow."""
+        async with aclosing(self._log.messages(state.offset - 1)) as messages:
+            if state.offset >= 0:
+                yield await self._first(messages, state)
+            while True:
+                yield await self._next(messages)
+
+    async def _first(self, messages: AsyncGenerator[tuple[int, bytes], None],
+                     state: State) -> tuple[int, bytes]:
+        """The message of the state's place, which has to be the one that was taken there; a later
+        one, where the log no longer has that."""
+        try:
+            async with asyncio.timeout(AT_ONCE):
+                offset, message = await anext(messages)
+                while offset < state.offset:
+                    offset, message = await anext(messages)
+        except TimeoutError:
+            await self._check_end(state)
+            raise self._silence("the message that was taken last did not come") from None
+        if offset == state.offset and state.digest not in ("", digest_of(message)):
+            raise CannotFollow(await self._made_anew(state, f"at offset {offset} it has another "
+                                                            "message"))
+        # (an old one says nothing of whether new ones come)
+        if offset > state.offset:
+            self._note_heard()
+        return offset, message
+
+    async def _next(self, messages: AsyncGenerator[tuple[int, bytes], None]) -> tuple[int, bytes]:
+        try:
+            async with asyncio.timeout(SILENT):
+                found = await anext(messages)
+        except TimeoutError:
+            raise self._silence(f"nothing came for {SILENT:g} seconds") from None
+        self._note_heard()
+        return found
+
+    def _silence(self, why: str) -> Away:
+        """What is raised of a silence; after two in turn another connection is made too."""
+        self._silences += 1
+        if self._silences > 1:
+            self._log.drop_reading(why)
+        return Away(why)
+
+    async def _check_end(self, state: State) -> None:
+        """That the log goes as far as this follower has come; else it is another one."""
+        end = await self._log.end_offset()
+        if end <= state.offset:
+            raise CannotFollow(await self._made_anew(state, f"it ends at offset {end}"))
+
+    async def _made_anew(self, state: State, why: str) -> str:
+        now = await identity.of_log(self._log)
+        return (f"the log {self._log.name} is {identity.shown(now)}, and {why}; the documents are "
+                f"of {state} of the log {identity.shown(state.identity)}: it is not the log that "
+                "they followed, or it was made anew")
+
+    def _note_break(self, why: str, state: State) -> None:
+        if self._broke is None:
+            self._broke = asyncio.get_running_loop().time()
+            # (that there is no connection is told by whoever makes them)
+            if self._log.is_read:
+                self._say(f"{self._name}: {why}: the log is followed anew from {state}")
+
+    def _note_heard(self) -> None:
+        self._silences = 0
+        self._pauses.begin_anew()
+        if self._broke is not None and self._was_heard:
+            seconds = asyncio.get_running_loop().time() - self._broke
+            self._say(f"{self._name}: follows the log again, after {seconds:.1f} s")
+        self._broke, self._was_heard = None, True

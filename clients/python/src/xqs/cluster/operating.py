@@ -1,0 +1,76 @@
+"""What an operator asks by `xqs node --status`, `--skip` and `--copies`."""
+
+import argparse
+import asyncio
+import sys
+from pathlib import Path
+
+from xqs.cluster import control
+from xqs.cluster.addresses import LogAddress
+from xqs.cluster.status import Status
+from xqs.errors import XqError
+
+
+def add_options(parser: argparse.ArgumentParser) -> None:
+    """Adds the options, each of which has no node begin."""
+    group = parser.add_argument_group("questions, which start no node").add_argument
+    group("--status", action="store_true",
+          help="how the node does that runs with the folder of --snapshots; the exit status is 0 "
+          "where it follows the log, and else 1")
+    group("--json", action="store_true", help="with --status: one line of JSON")
+    group("--copies", action="store_true",
+          help="which brokers of --log have a copy of it; the exit status is 0 where all have")
+    group("--skip", type=int, metavar="PLACE",
+          help="has all nodes skip the store or drop of that place, at which the node of "
+          "--snapshots stepped aside: it is carried out nowhere, for good")
+
+
+def asks(given: argparse.Namespace) -> bool:
+    """Whether the words ask something, and want no node."""
+    return given.status or given.copies or given.skip is not None
+
+
+def answer(given: argparse.Namespace, address: LogAddress | None) -> int:
+    """Answers what the words ask; the exit status. Raises XqError."""
+    if address is not None:
+        return asyncio.run(_copies(address))
+    if given.snapshots is None:
+        raise ValueError("which node is meant says its folder: give --snapshots DIR")
+    if given.skip is not None:
+        return _skip(given.snapshots, given.skip)
+    return _status(given.snapshots, given.json)
+
+
+def _asked(folder: Path, request: str) -> str:
+    is_done, said = control.ask(folder, request)
+    if not is_done:
+        raise XqError(said)
+    return said
+
+
+def _skip(folder: Path, place: int) -> int:
+    print(_asked(folder, f"skip {place}"), file=sys.stderr)
+    return 0
+
+
+def _status(folder: Path, is_json: bool) -> int:
+    status = Status.of_json(_asked(folder, "status"))
+    print(status.to_json() if is_json else status.lines())
+    return 0 if status.is_following else 1
+
+
+async def _copies(address: LogAddress) -> int:
+    # (here, so that all else works where the package is not installed)
+    from xqs.cluster.amqp import AmqpLog
+    from xqs.cluster.amqp_link import quiet
+
+    quiet()
+    found = await AmqpLog(address, lambda line: None).copies()
+    words = {True: "has a copy", False: "has no copy", None: "does not answer"}
+    for broker, has in found.items():
+        print(f"{broker}: {words[has]}")
+    if False in found.values():
+        print("on a broker that has a copy, in /var/lib/rabbitmq: su rabbitmq -s /bin/sh -c "
+              f"'/usr/lib/rabbitmq/bin/rabbitmq-streams add_replica {address.name} rabbit@HOST'",
+              file=sys.stderr)
+    return 0 if all(found.values()) else 1
