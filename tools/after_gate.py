@@ -123,8 +123,8 @@ def client_trials(given: Given) -> Iterator[Trial]:
 
 
 def as_root(given: Given) -> str:
-    """What is missing where machines are made of network namespaces."""
-    return served(given) or ("" if os.geteuid() == 0 else "machines of its own want root")
+    """What is missing where machines, or a bare system, are made."""
+    return served(given) or ("" if os.geteuid() == 0 else "systems of its own want root")
 
 
 def program_trials(given: Given) -> Iterator[Trial]:
@@ -157,12 +157,12 @@ def program_trials(given: Given) -> Iterator[Trial]:
 def release_trials(given: Given) -> Iterator[Trial]:
     """The package for Debian, installed in a bare system."""
     words = ["python3", "tools/try_deb.py", "--program", *given.server[:1]]
-    yield Trial("debian_package", words, (), ("debootstrap", "help2man", "dpkg-deb"), as_root)
+    yield Trial("debian_package", words, (), ("debootstrap", "help2man", "dpkg-deb"), as_root_built)
 
 
-def as_root(given: Given) -> str:
-    """What is missing where a bare system is made."""
-    return built(given) or ("" if os.geteuid() == 0 else "it has to be root")
+def as_root_built(given: Given) -> str:
+    """What is missing where the program is packed, and a bare system made."""
+    return built(given) or as_root(given)
 
 
 def library_trials(given: Given) -> Iterator[Trial]:

@@ -201,12 +201,13 @@ class Backward(NodesTest):
         """What reads see in turn, each asked once the one before it was answered, by two clients
         that take turns."""
         clients = [await self.client(node), await self.client(node)]
-        seen, until = [], time.monotonic() + seconds
+        seen: list[int] = []
+        until = time.monotonic() + seconds
         while time.monotonic() < until:
             with suppress(Wanting):
                 found = await clients[len(seen) % 2].query(
                     'for $n in collection()/n return xs:integer(string($n))')
-                seen.append(int(found[0]) if found else 0)
+                seen.append(int(str(found[0])) if found else 0)
         return seen
 
     @staticmethod

@@ -19,7 +19,7 @@ import unittest
 from collections.abc import Awaitable, Callable, Iterator
 from contextlib import suppress
 from pathlib import Path
-from typing import TypeAlias
+from typing import Any, TypeAlias, cast
 
 import tests  # noqa: F401 (puts the package on the path)
 
@@ -54,6 +54,9 @@ Fault: TypeAlias = tuple[Callable[[int], Awaitable[None]], int]
 
 if why := missing():
     raise unittest.SkipTest(why)
+
+brokers = cast(Brokers, None)
+"""Those of all tests here, once they run."""
 
 
 def setUpModule() -> None:
@@ -339,7 +342,7 @@ class Logs(ClusterTest):
         async with await node.connect() as client:
             await client.store("c", value(1))
 
-    async def declare(self, arguments: dict[str, str | int]) -> None:
+    async def declare(self, arguments: dict[str, Any]) -> None:
         """Makes a queue of the log's name."""
         where = log_address(brokers.address(self.log))
         connection = await aio_pika.connect(where.brokers[0])

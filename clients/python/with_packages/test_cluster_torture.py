@@ -12,7 +12,7 @@ import sys
 import tempfile
 import time
 import unittest
-from collections.abc import Awaitable, Callable
+from collections.abc import Awaitable, Callable, Iterator
 from contextlib import suppress
 from pathlib import Path
 
@@ -162,11 +162,12 @@ class Torture(unittest.IsolatedAsyncioTestCase):
         for task in work:
             task.cancel()
         await asyncio.gather(*work, return_exceptions=True)
-        self.findings += [fault for it in [*writers, *watchers] for fault in it.faults]
+        self.findings += [fault for it in writers for fault in it.faults]
+        self.findings += [fault for it in watchers for fault in it.faults]
         print(await self.judged(), flush=True)
         self.assertEqual(self.findings, [])
 
-    def plan(self):  # type: ignore[no-untyped-def]
+    def plan(self) -> Iterator[tuple[Callable[[str], Awaitable[None]], str]]:
         """Each fault of each machine in turn, and then what chance says."""
         faults: list[Callable[[str], Awaitable[None]]] = [
             self.restart_broker, self.store_endlessly, self.part, self.kill_node, self.kill_broker,
