@@ -3,11 +3,14 @@
 import asyncio
 import hashlib
 import json
+import subprocess
+import sys
 import unittest
 from pathlib import Path
 from unittest import mock
 
 from tests.local_nodes import COUNT_UP, NodesTest
+from tests.serving import SOURCES
 from xqs.cluster import aside, identity, snapshots
 from xqs.cluster.batches import Batch, decode, encode
 from xqs.cluster.limits import NoAnswer, Pauses, within
@@ -73,6 +76,45 @@ class Limits(unittest.IsolatedAsyncioTestCase):
             pauses.begin_anew()
             await pauses.pause()
         self.assertEqual(slept, [0.2, 0.4, 0.8, 1.0, 1.0, 0.2])
+
+
+DEAF = """
+import asyncio, sys
+from xqs.cluster import ending
+from xqs.errors import XqError
+ending.LEFT = 0.2
+
+async def deaf():
+    while True:
+        try:
+            await asyncio.sleep(60)
+        except asyncio.CancelledError:
+            pass
+
+async def work():
+    if sys.argv[1] == "deaf":
+        asyncio.ensure_future(deaf())
+        await asyncio.sleep(0)
+    print("done")
+    if sys.argv[2] == "fails":
+        raise XqError("it failed")
+    return 7
+
+sys.exit(ending.run(work(), "node"))
+"""
+
+
+class Ends(unittest.TestCase):
+    """A process ends whatever the package leaves behind."""
+
+    def test_tasks_that_do_not_end_hold_nobody_up(self) -> None:
+        for kind in ("deaf", "none"):
+            for how, status in (("works", 7), ("fails", 1)):
+                done = subprocess.run(
+                    [sys.executable, "-c", DEAF, kind, how], capture_output=True, text=True,
+                    timeout=60, cwd=SOURCES, check=False)
+                self.assertEqual((done.returncode, done.stdout), (status, "done\n"), done.stderr)
+                self.assertEqual("it failed" in done.stderr, how == "fails")
 
 
 class Silence(NodesTest):

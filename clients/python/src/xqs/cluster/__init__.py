@@ -5,5 +5,5 @@
 speak to the engine of the log, of which the rest knows the protocol in `log`. `feed` gives a
 `follower` the messages behind its place whatever becomes of brokers, within the `limits` of time;
 `aside` has one that halted go on. `node` has clients, `reads`, the `outbox` and the `watches`;
-`status`, `health`, `control` and `operating` are for operators.
+`status`, `health`, `control` and `operating` are for operators, `ending` is how a process ends.
 """

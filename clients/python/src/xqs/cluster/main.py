@@ -13,7 +13,7 @@ from functools import partial
 
 from xqs import bounds, listening, mux
 from xqs.cli import connection_options
-from xqs.cluster import control, health, operating
+from xqs.cluster import control, ending, health, operating
 from xqs.cluster.addresses import VARIABLE, LogAddress, check_ways, given_log
 from xqs.cluster.agreement import EVERY
 from xqs.cluster.node import Node, Options
@@ -175,8 +175,8 @@ def main(words: Sequence[str]) -> int:
         given.name, command, given.program or "", given.servers,
         pathlib.Path(file) if file else None, folder, given.every, given.seconds, given.fresh,
         given.memory // given.servers if given.memory else None)
-    return asyncio.run(
-        run(address, given.listen, options, mux.client_settings_of(given), given.http))
+    return ending.run(
+        run(address, given.listen, options, mux.client_settings_of(given), given.http), "node")
 
 
 def _parser() -> argparse.ArgumentParser:

@@ -1,11 +1,10 @@
 """What an operator asks by `xqs node --status`, `--skip` and `--copies`."""
 
 import argparse
-import asyncio
 import sys
 from pathlib import Path
 
-from xqs.cluster import control
+from xqs.cluster import control, ending
 from xqs.cluster.addresses import LogAddress
 from xqs.cluster.status import Status
 from xqs.errors import XqError
@@ -33,7 +32,7 @@ def asks(given: argparse.Namespace) -> bool:
 def answer(given: argparse.Namespace, address: LogAddress | None) -> int:
     """Answers what the words ask; the exit status. Raises XqError."""
     if address is not None:
-        return asyncio.run(_copies(address))
+        return ending.run(_copies(address), "node")
     if given.snapshots is None:
         raise ValueError("which node is meant says its folder: give --snapshots DIR")
     if given.skip is not None:
