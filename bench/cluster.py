@@ -51,16 +51,22 @@ LARGE, MEGABYTES = 25, 1_000_000
 """Documents of a megabyte each that a snapshot has whose pause is measured."""
 
 
+def changed(text: str, number: int) -> str:
+    """The library with another text in each of its books."""
+    return text.replace('{"A"}', f'{{"A{number}"}}').replace('{"B"}', f'{{"B{number}"}}')
+
+
 def stores(place: str | Sequence[str], seconds: float) -> float:
-    """Stores a second of one client that has so many in flight."""
+    """Stores a second of one client that has so many in flight: a document that is another one each
+    time, since a server writes nothing where it is the same."""
     text = LIBRARY.decode()
     with connect(place) as client:
         client.store("b", text)
-        waiting = [client.store_later("b", text) for _ in range(FLIGHT)]
+        waiting = [client.store_later("b", changed(text, it)) for it in range(FLIGHT)]
         count, begin = 0, time.perf_counter()
         while time.perf_counter() - begin < seconds:
             waiting.pop(0).result()
-            waiting.append(client.store_later("b", text))
+            waiting.append(client.store_later("b", changed(text, count)))
             count += 1
         taken = time.perf_counter() - begin
     return count / taken
