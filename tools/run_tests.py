@@ -95,8 +95,8 @@ def main(words: Sequence[str] | None = None) -> int:
     """Carries out the command."""
     parser = argparse.ArgumentParser(description="Runs modules of tests side by side.")
     parser.add_argument("folder", type=pathlib.Path)
-    parser.add_argument("--jobs", type=int, default=max(1, (os.cpu_count() or 1) - 1),
-                        help="modules at a time (the processors less one)")
+    parser.add_argument("--jobs", type=int, default=max(2, (os.cpu_count() or 1) - 1),
+                        help="modules at a time (the processors less one, at least two)")
     parser.add_argument("--minutes", type=float, default=15.0)
     given = parser.parse_args(words)
     begin = time.monotonic()
