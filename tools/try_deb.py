@@ -31,7 +31,7 @@ STEPS = (
     ("xqs --version", "xqs "),
     (f"echo '{BOOK}' >/tmp/a.xml && xqs store books /tmp/a.xml --file /tmp/x.db", "stored"),
     ("""xqs query 'doc("books")//title' --file /tmp/x.db""", 'element title {text {"Ink"}}'),
-    ("xqs backup /tmp/x.backup --file /tmp/x.db", "1 documents"),
+    ("xqs backup /tmp/x.backup --file /tmp/x.db 2>&1", "1 documents"),
     ("xqs list --file /tmp/absent/x.db 2>&1 || true", "cannot open the store"),
     ("man -P cat xqs-query | head -n 4", "xqs-query"),
     ("man -P cat xq_server | head -n 4", "xq_server"),
