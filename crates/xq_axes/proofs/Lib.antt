@@ -34,3 +34,5 @@ pub mod ManyChildren
 pub mod Owning
 pub mod Owned
 pub mod InTree
+pub mod Seen
+pub mod LookedBelow

@@ -1,10 +1,11 @@
 -- The places of elements with a name are the numbers of the rows that pass a node_test.
-use Rattle.std.proofs.Common.{◌≡◌, ℕ, zero, suc, ◌+◌, ◌<◌, ◌≤◌, List, [], ◌∷◌, ◌++◌, length, map, take, drop, get_or, Bool, true, false, not, ◌&&◌, cond, inl, inr, refl, sym, ◌∙◌, ap, subst, append_assoc, arith}
+use Rattle.std.proofs.Common.{◌≡◌, ℕ, zero, suc, ◌+◌, ◌<◌, ◌≤◌, List, [], ◌∷◌, ◌++◌, length, map, take, drop, get_or, nat_lt, Bool, true, false, not, ◌&&◌, cond, inl, inr, refl, sym, ◌∙◌, ap, subst, append_assoc, arith}
 use Rattle.std.specs.Prelude.{filter, Some}
 use Rattle.std.specs.List.{enumerate_from}
 use Rattle.std.proofs.Math.Seq.{get_or-append_seam, drop-append_seam}
-use Rattle.std.proofs.lemmas.Bool.{cases_lt}
-use Rattle.std.proofs.lemmas.List.{append-nil, length-append, get_or_append_left, take-append-le, take-append-drop, take_all, take_more, map-append}
+use Rattle.std.specs.List.Sorted.{IsPartitionedBy, IsPartitionPoint}
+use Rattle.std.proofs.lemmas.Bool.{cases_lt, lt-ltb, ltb-true, ltb-false}
+use Rattle.std.proofs.lemmas.List.{append-nil, length-append, get_or_append_left, get_or_default, take-append-le, take-append-drop, take_all, take_more, map-append}
 use Rattle.std.proofs.lemmas.List.Elements.{filter-append}
 use Rattle.std.proofs.lemmas.List.FromFn.{length-enumerate_from, get_or-enumerate_from}
 use Rattle.xq_atoms.specs.Text.{Text, text_eq}
@@ -208,21 +209,24 @@ told t node_test name wanted low high old part e is h o b =
 
 -- # A search by halves
 
--- where one comes before the place, so do those before it
-pub before_too : (vs : List ℕ) (middle place : ℕ) → IsRising vs → middle < length vs → get_or vs middle 0 < place → (i : ℕ) → i < middle + 1 → get_or vs i 0 < place
-before_too vs middle place up h l i k =
-    elim (cases_lt i middle) [
-      | inl m ↦ (let u = up i middle m h in omega (arith, u, l))
-      | inr m ↦ (let e : middle ≡ i = omega (arith, k, m) in subst (λ j. get_or vs j 0 < place) e l)
-    ]
+-- those that come before a place are followed by those that don't
+pub parted_before : (vs : List ℕ) (place : ℕ) → IsRising vs → IsPartitionedBy (λ v. nat_lt v place) vs
+parted_before vs place up = λ i j d le inside e.
+    let first = get_or_default vs i 0 d (omega (arith, le, inside)) in
+    let second = get_or_default vs j 0 d inside in
+    let less = ltb-true (get_or vs j d) place e in
+    lt-ltb (get_or vs i d) place (elim (cases_lt i j) [
+      | inl l ↦ (let u = up i j l inside in omega (arith, u, less, first, second))
+      | inr l ↦ (let same : j ≡ i = omega (arith, le, l) in subst (λ k. get_or vs k d < place) same less)
+    ])
 
--- where one doesn't, neither do those after it
-pub others_too : (vs : List ℕ) (middle place : ℕ) → IsRising vs → place ≤ get_or vs middle 0 → (i : ℕ) → middle ≤ i → i < length vs → place ≤ get_or vs i 0
-others_too vs middle place up l i k h =
-    elim (cases_lt middle i) [
-      | inl m ↦ (let u = up middle i m h in omega (arith, u, l))
-      | inr m ↦ (let e : middle ≡ i = omega (arith, k, m) in subst (λ j. place ≤ get_or vs j 0) e l)
-    ]
+-- so many of them come before it
+pub reached_parted : (vs : List ℕ) (place index : ℕ) → index ≤ length vs → IsPartitionPoint (λ v. nat_lt v place ≡ true) (λ v. nat_lt v place ≡ false) vs index → IsReached vs index place
+reached_parted vs place index within parted = record {
+  within = within;
+  before = λ i h. ltb-true (get_or vs i 0) place (parted.0 i 0 (omega arith) h);
+  others = λ i l h. ltb-false (get_or vs i 0) place (parted.1 i 0 l h);
+}
 
 -- # The rows below a context
 

@@ -5,6 +5,7 @@ use Rattle.std.specs.List.{list_any, range_with_len, Contains}
 use Rattle.std.specs.declared.cmp.Ordering.TheVariants.{Less}
 use Rattle.std.proofs.lemmas.Bool.{le-leb, lt-ltb, cases_lt, or_right}
 use Rattle.std.proofs.lemmas.List.{length-append, length-map, length-take, get_or-map, get_or-take, map-append, take_more, take_all}
+use Rattle.std.proofs.lemmas.List.Elements.{Contains-get_or}
 use Rattle.std.proofs.lemmas.Map.Keys.{Less-from_sorted}
 use Rattle.xq_trees.specs.Forest.{count}
 use Rattle.xq_trees.specs.RegionTests.{inside}
@@ -246,6 +247,20 @@ module _ (contexts : List Node) (index tree : ℕ) (kept : List ℕ) (are : AreK
       let one : spot tree x.pre ≡ x = ap (λ n. spot n x.pre) (sym same) in
       ap (map (spot tree)) e ∙ map-append (spot tree) kept (x.pre ∷ []) ∙ ap (λ xs. xs ++ spot tree x.pre ∷ []) are ∙ ap (λ n. take index contexts ++ n ∷ []) (one ∙ at.is)
       ∙ sym (take_more contexts index x at.within)
+
+  -- where some were gathered, they are of that tree
+  pub kept_tree : (one : ℕ) (ns : List Node) → AreOf one ns → ((n : Node) → Contains contexts n ↔ Contains ns n) → 0 < length kept → tree ≡ one
+  kept_tree one ns all m l =
+      let s = sizes in
+      ap (λ (n : Node). n.tree) (each 0 l) ∙ one_tree one contexts 0 none (still_one one ns contexts all (λ n. (m n).0)) (omega (arith, s, l))
+
+  -- and a list of the same nodes has some
+  pub some_same : (ns : List Node) → ((n : Node) → Contains contexts n ↔ Contains ns n) → 0 < length kept → 0 < length ns
+  some_same ns m l =
+      let s = sizes in
+      let other = (m (get_or contexts 0 none)).0 (Contains-get_or contexts 0 none (omega (arith, s, l))) in
+      let within = other.1 in
+      omega (arith, within)
 
   -- the region of all
   pub kept_region : (a : Axis) (trees : List Tree) (one : ℕ) (ns : List Node) → length contexts ≤ index → AreOf one ns → ((n : Node) → Contains contexts n ↔ Contains ns n)

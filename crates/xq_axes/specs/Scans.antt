@@ -1,5 +1,5 @@
--- The rows of ranges that a step has to read.
-use Rattle.std.specs.Prelude.{ℕ, ◌≡◌, List, map, filter, Bool, false, ◌||◌, nat_eq, nat_lt, nat_le}
+-- The rows of ranges that a step has to read, and those that it may look at.
+use Rattle.std.specs.Prelude.{ℕ, ◌≡◌, List, [], ◌∷◌, map, filter, Bool, false, ◌||◌, nat_eq, nat_lt, nat_le}
 use Rattle.std.specs.List.{list_any, range_with_len, AllByRecursion}
 use Rattle.xq_trees.specs.Forest.{count}
 use Rattle.xq_trees.specs.Tree.{Tree, nodes}
@@ -32,6 +32,11 @@ in_scan SelfNode rs v p = false
 abbrev pub region : Axis → Tree → List ℕ → List ℕ
 region axis t vs = filter (λ p. list_any (λ v. in_scan axis (rows t) v p) vs)
     (range_with_len 0 (count (nodes t)))
+
+-- how many rows a step from these places may look at: those of the tree, and none from no place
+abbrev pub rows_from : Tree → List ℕ → ℕ
+rows_from t [] = 0
+rows_from t (v ∷ vs) = count (nodes t)
 
 -- the nodes are of the tree with this number
 abbrev pub AreOf : ℕ → List Node → Type 0

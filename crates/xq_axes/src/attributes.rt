@@ -115,6 +115,7 @@ fn take_attributes<L: RowLender>(
         → (L.meter source.new).rows ≤ (L.meter source.old).rows
         + (span_end (tree_at (L.forest source.old) tree) (span low high) - low) }
     ensures singles { (L.meter source.new).singles ≡ (L.meter source.old).singles }
+    ensures looks { (L.meter source.new).looks ≡ (L.meter source.old).looks }
     ensures keeps { L.forest source.new ≡ L.forest source.old }
     ensures was_clean { L.is_clean source.new → L.is_clean source.old }
 {
@@ -156,6 +157,7 @@ pub fn search_attributes<L: RowLender>(
         + length (region axes.Attributes (tree_at (L.forest source.old) tree) places.now) }
     ensures singles { (L.meter source.new).singles
         ≤ (L.meter source.old).singles + length places.now }
+    ensures looks { (L.meter source.new).looks ≡ (L.meter source.old).looks }
     ensures keeps { L.forest source.new ≡ L.forest source.old }
     ensures was_clean { L.is_clean source.new → L.is_clean source.old }
 {

@@ -211,6 +211,7 @@ fn look_between<L: RowLender>(
         → (L.meter source.new).rows ≤ (L.meter source.old).rows
         + (span_end (tree_at (L.forest source.old) tree) (span low high) - low) }
     ensures singles { (L.meter source.new).singles ≡ (L.meter source.old).singles }
+    ensures looks { (L.meter source.new).looks ≡ (L.meter source.old).looks }
     ensures keeps { L.forest source.new ≡ L.forest source.old }
     ensures was_clean { L.is_clean source.new → L.is_clean source.old }
 {
@@ -240,6 +241,7 @@ pub fn search_back<L: RowLender>(
         → (L.meter source.new).rows ≤ (L.meter source.old).rows
         + length (region (axis_back direction) (tree_at (L.forest source.old) tree) places.now) }
     ensures singles { (L.meter source.new).singles ≡ (L.meter source.old).singles }
+    ensures looks { (L.meter source.new).looks ≡ (L.meter source.old).looks }
     ensures keeps { L.forest source.new ≡ L.forest source.old }
     ensures was_clean { L.is_clean source.new → L.is_clean source.old }
 {

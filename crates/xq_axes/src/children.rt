@@ -1,10 +1,15 @@
 //! Children of many nodes at once.
-ghost use Rattle.std.specs.Prelude.{◌≡◌, ◌+◌, ◌≤◌, filter, true, false, None, length, IfOk, IfSome};
+ghost use Rattle.std.specs.Prelude.{◌≡◌, ◌+◌, ◌<◌, ◌≤◌, filter, true, false, Some, None, length, IfOk, IfSome};
 ghost use Rattle.xq_trees.specs.Forest.{count};
 ghost use Rattle.xq_trees.specs.Tree.{nodes};
 ghost use Rattle.xq_trees.specs.declared.Axis.TheVariants as axes;
+ghost use Rattle.xq_atoms.specs.Text.{Text};
+ghost use Rattle.xq_trees.specs.Rows.{placed_rows};
+ghost use Rattle.xq_sources.specs.Meters.{SeesAtMost};
+ghost use Rattle.xq_sources.specs.Names.{named as named_lem};
 ghost use Rattle.xq_sources.specs.Sources.{tree_at};
-ghost use Rattle.xq_axes.specs.Scans.{region};
+ghost use Rattle.xq_meaning.specs.declared.node_tests.Test.TheVariants as tests;
+ghost use Rattle.xq_axes.specs.Scans.{region, rows_from};
 ghost use Rattle.xq_axes.specs.private.Hits.{is_among, is_wanted, below_where, IsRising};
 ghost use Rattle.xq_axes.specs.private.Named.{is_below_one};
 
@@ -66,7 +71,7 @@ fn is_beside(places: &[u32], index: usize, place: u32) -> bool
 
 /// Which of the places, which rise, is the place.
 #[inline(never)]
-fn find_among(places: &[u32], place: u32) -> Option<usize>
+pub fn find_among(places: &[u32], place: u32) -> Option<usize>
     ensures some { IsRising places.now → IfSome result (λ _. is_among places.now place ≡ true) }
     ensures none { IsRising places.now → result ≡ None → is_among places.now place ≡ false }
 {
@@ -127,7 +132,9 @@ fn told_below<L: RowLender>(
 
 /// Whether the places, which rise, are so many, and so far apart, that places of names are asked
 /// for.
-fn are_many(places: &[u32]) -> bool {
+fn are_many(places: &[u32]) -> bool
+    ensures { result ≡ true → 0 < length places.now }
+{
     let (Some(first), Some(last)) = (places.first(), places.last()) else {
         return false;
     };
@@ -174,31 +181,44 @@ fn are_mostly_below<L: RowLender>(
     below >= first.len().saturating_add(later.len()) / PART
 }
 
-/// The places of the children of the nodes at the places, which rise, that pass the test, where it
-/// asks for a name, the nodes are many, and the lender tells where the elements with the name lie,
-/// and the parent of each. No row is read.
-fn named_children<L: RowLender>(
+/// Of the places of all elements with a name, for which all rows of the tree were looked at, those
+/// of children of the nodes at the places, which rise. No row is read, so none is looked at twice:
+/// `Want::Memory` where the lender can't tell a parent, since it had no memory to keep it.
+fn looked_children<L: RowLender>(
     alloc: Global,
-    source: &mut L,
+    source: &L,
     tree: usize,
     places: &[u32],
-    test: &Test,
-) -> Result<Option<Places>, Want>
-    ensures found { L.is_clean source.new
-        → let t = tree_at (L.forest source.old) tree in
-        IsRising places.now → IfOk result (λ told. IfSome told (λ found. found.items
-        ≡ below_where (is_wanted axes.Child test.now t places.now) (count (nodes t)))) }
-    ensures counts { L.meter source.new ≡ L.meter source.old }
-    ensures keeps { L.forest source.new ≡ L.forest source.old }
-    ensures was_clean { L.is_clean source.new → L.is_clean source.old }
+    named: &[u32],
+) -> Result<Places, Want>
+    ensures { L.is_clean source.now
+        → let t = tree_at (L.forest source.now) tree in
+        (name : Text) → named.now ≡ named_lem (placed_rows t) name → IsRising places.now
+        → IfOk result (λ found. found.items ≡ below_where
+        (is_wanted axes.Child (tests.Element (Some name)) t places.now) (count (nodes t))) }
 {
-    let Some(name) = wanted_name(test) else {
-        return Ok(None);
+    let told = told_below(alloc, source, tree, places, named)?;
+    let Some(found) = told else {
+        return Err(Want::Memory);
     };
-    if !are_many(places) {
-        return Ok(None);
-    }
-    source.find_named(alloc, tree, name);
+    Ok(Places::from_vec(found))
+}
+
+/// The places of the children of the nodes at the places, which rise, that pass the test, by the
+/// places of the elements with its name that the lender tells, where these are not too many and it
+/// tells the parent of each. No row is read or looked at.
+fn told_children<L: RowLender>(
+    alloc: Global,
+    source: &L,
+    tree: usize,
+    places: &[u32],
+    name: &str,
+) -> Result<Option<Places>, Want>
+    ensures { L.is_clean source.now
+        → let t = tree_at (L.forest source.now) tree in
+        IsRising places.now → IfOk result (λ told. IfSome told (λ found. found.items ≡ below_where
+        (is_wanted axes.Child (tests.Element (Some name.now)) t places.now) (count (nodes t)))) }
+{
     let Some(named) = source.named(tree, name) else {
         return Ok(None);
     };
@@ -212,6 +232,73 @@ fn named_children<L: RowLender>(
         return Ok(None);
     };
     Ok(Some(Places::from_vec(found)))
+}
+
+/// The places of the children of the nodes at the places, which rise, that pass the test, where it
+/// asks for a name, the nodes are many, and the lender tells where the elements with the name lie,
+/// and the parent of each. No row is read. Where the lender looks for the name, at each row of the
+/// tree once, the children are found by what it finds: None says that no row was looked at.
+fn named_children<L: RowLender>(
+    alloc: Global,
+    source: &mut L,
+    tree: usize,
+    places: &[u32],
+    test: &Test,
+) -> Result<Option<Places>, Want>
+    ensures found { L.is_clean source.new
+        → let t = tree_at (L.forest source.old) tree in
+        IsRising places.now → IfOk result (λ told. IfSome told (λ found. found.items
+        ≡ below_where (is_wanted axes.Child test.now t places.now) (count (nodes t)))) }
+    ensures rows { (L.meter source.new).rows ≡ (L.meter source.old).rows }
+    ensures singles { (L.meter source.new).singles ≡ (L.meter source.old).singles }
+    ensures sees { L.is_clean source.new → (L.meter source.new).looks
+        ≤ (L.meter source.old).looks
+        + rows_from (tree_at (L.forest source.old) tree) places.now }
+    ensures unseen { L.is_clean source.new → IfOk result (λ told. told ≡ None
+        → (L.meter source.new).looks ≡ (L.meter source.old).looks) }
+    ensures keeps { L.forest source.new ≡ L.forest source.old }
+    ensures was_clean { L.is_clean source.new → L.is_clean source.old }
+{
+    let Some(name) = wanted_name(test) else {
+        return Ok(None);
+    };
+    if !are_many(places) {
+        return Ok(None);
+    }
+    if let Some(named) = source.find_named(alloc, tree, name)? {
+        let found = looked_children(alloc, source, tree, places, &named)?;
+        return Ok(Some(found));
+    }
+    told_children(alloc, source, tree, places, name)
+}
+
+/// The places of the children of many nodes at the places, which rise, that pass the test: in
+/// document order, each once.
+fn children_of_many<L: RowLender>(
+    alloc: Global,
+    source: &mut L,
+    tree: usize,
+    places: &[u32],
+    test: &Test,
+) -> Result<Places, Want>
+    ensures found { L.is_clean source.new
+        → let t = tree_at (L.forest source.old) tree in
+        IsRising places.now → IfOk result (λ found. found.items
+        ≡ below_where (is_wanted axes.Child test.now t places.now) (count (nodes t))) }
+    ensures rows { L.is_clean source.new
+        → (L.meter source.new).rows ≤ (L.meter source.old).rows
+        + length (region axes.Child (tree_at (L.forest source.old) tree) places.now) }
+    ensures singles { (L.meter source.new).singles
+        ≤ (L.meter source.old).singles + length places.now }
+    ensures sees { L.is_clean source.new → SeesAtMost (L.meter source.old) (L.meter source.new)
+        (rows_from (tree_at (L.forest source.old) tree) places.now) }
+    ensures keeps { L.forest source.new ≡ L.forest source.old }
+    ensures was_clean { L.is_clean source.new → L.is_clean source.old }
+{
+    match named_children(alloc, source, tree, places, test)? {
+        Some(found) => Ok(found),
+        None => search_below(alloc, source, tree, ToChildren, places, test),
+    }
 }
 
 /// The places of the children of the nodes at the places, which rise, that pass the test: in
@@ -232,14 +319,13 @@ pub fn search_children<L: RowLender>(
         + length (region axes.Child (tree_at (L.forest source.old) tree) places.now) }
     ensures singles { (L.meter source.new).singles
         ≤ (L.meter source.old).singles + length places.now }
+    ensures sees { L.is_clean source.new → SeesAtMost (L.meter source.old) (L.meter source.new)
+        (rows_from (tree_at (L.forest source.old) tree) places.now) }
     ensures keeps { L.forest source.new ≡ L.forest source.old }
     ensures was_clean { L.is_clean source.new → L.is_clean source.old }
 {
     if let [place] = places {
         return children_of(alloc, source, tree, *place, test);
     }
-    if let Some(found) = named_children(alloc, source, tree, places, test)? {
-        return Ok(found);
-    }
-    search_below(alloc, source, tree, ToChildren, places, test)
+    children_of_many(alloc, source, tree, places, test)
 }

@@ -45,6 +45,7 @@ pub fn copy<L: RowLender>(alloc: Global, source: &mut L, node: Node) -> Result<P
     ensures rows { L.is_clean source.new → (L.meter source.new).rows ≤ (L.meter source.old).rows
         + count (nodes (tree_below (L.forest source.old) (node_at (L.forest source.old) node))) }
     ensures singles { (L.meter source.new).singles ≤ (L.meter source.old).singles + 1 }
+    ensures looks { (L.meter source.new).looks ≡ (L.meter source.old).looks }
     ensures keeps { L.forest source.new ≡ L.forest source.old }
     ensures was_clean { L.is_clean source.new → L.is_clean source.old }
 {

@@ -27,7 +27,7 @@ use xq_sources::{LentRow, RowLender};
 const LEVELS: usize = 101;
 
 /// From how many rows below a context on places of names are asked for: fewer are read as fast.
-const MANY_ROWS: u32 = 64;
+pub const MANY_ROWS: u32 = 64;
 
 /// An axis to what is below the context nodes.
 #[derive(Clone, Copy)]
@@ -278,23 +278,19 @@ impl<'a, D: Direction> Below<'a, D> {
 /// the axis is that of descendants and the lender tells where such elements are; gives whether it
 /// did. No row is read.
 fn take_told<'t, 'c, L: RowLender, D: Direction + Drop>(
-    alloc: Global,
-    source: &mut L,
+    source: &L,
     tree: usize,
     low: u32,
     high: u32,
     picker: &mut Picker<'t, Below<'c, D>>,
 ) -> Result<bool, Want>
-    ensures told { L.is_clean source.new
-        → let t = tree_at (L.forest source.old) tree in
+    ensures told { L.is_clean source.now
+        → let t = tree_at (L.forest source.now) tree in
         let s = span low high in
         let has_read = ⟦<Picker<'t, Below<'c, D>> as Visitor>⟧.has_read in
         (start : PickerLem (BelowLem D)) → has_read start picker.old t s low
         → IfOk result (λ is_told. is_told ≡ true → has_read start picker.new t s (span_end t s)) }
     ensures untold { IfOk result (λ is_told. is_told ≡ false → picker.new ≡ picker.old) }
-    ensures counts { L.meter source.new ≡ L.meter source.old }
-    ensures keeps { L.forest source.new ≡ L.forest source.old }
-    ensures was_clean { L.is_clean source.new → L.is_clean source.old }
 {
     let Downward::Descendant = picker.judge.direction.which() else {
         return Ok(false);
@@ -302,15 +298,7 @@ fn take_told<'t, 'c, L: RowLender, D: Direction + Drop>(
     if high.saturating_sub(low) < MANY_ROWS {
         return Ok(false);
     }
-    add_named(
-        alloc,
-        source,
-        tree,
-        low,
-        high,
-        picker.test,
-        &mut picker.found,
-    )
+    add_named(source, tree, low, high, picker.test, &mut picker.found)
 }
 
 /// Finds what is on the axis from `low` to `high`, the rows below a context; each is read once at
@@ -333,10 +321,11 @@ fn find_below<'t, 'c, L: RowLender, D: Direction + Drop>(
         → (L.meter source.new).rows ≤ (L.meter source.old).rows
         + (span_end (tree_at (L.forest source.old) tree) (span low high) - low) }
     ensures singles { (L.meter source.new).singles ≡ (L.meter source.old).singles }
+    ensures looks { (L.meter source.new).looks ≡ (L.meter source.old).looks }
     ensures keeps { L.forest source.new ≡ L.forest source.old }
     ensures was_clean { L.is_clean source.new → L.is_clean source.old }
 {
-    if take_told(alloc, source, tree, low, high, picker)? {
+    if take_told(source, tree, low, high, picker)? {
         return Ok(());
     }
     walk(alloc, source, tree, low, high, picker)
@@ -370,6 +359,7 @@ fn search_one<L: RowLender, D: Direction + Drop>(
     ensures rows { L.is_clean source.new → let t = tree_at (L.forest source.old) tree in
         ReadsBelow t place (L.meter source.old).rows (L.meter source.new).rows }
     ensures singles { (L.meter source.new).singles ≤ (L.meter source.old).singles + 1 }
+    ensures looks { (L.meter source.new).looks ≡ (L.meter source.old).looks }
 {
     source.fetch_row(alloc, tree, place)?;
     let Some(row) = source.lent().get(0) else {
@@ -405,6 +395,7 @@ pub fn search_below<L: RowLender, D: Direction + Drop>(
         places.now) }
     ensures singles { (L.meter source.new).singles
         ≤ (L.meter source.old).singles + length places.now }
+    ensures looks { (L.meter source.new).looks ≡ (L.meter source.old).looks }
     ensures keeps { L.forest source.new ≡ L.forest source.old }
     ensures was_clean { L.is_clean source.new → L.is_clean source.old }
 {

@@ -9,6 +9,7 @@ mod contexts;
 mod copies;
 mod downward;
 mod levels;
+mod looks;
 mod merges;
 mod names;
 mod near;

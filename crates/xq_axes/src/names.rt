@@ -8,31 +8,20 @@ ghost use Rattle.xq_axes.specs.private.Hits.{below_where, IsRising, IsReached};
 ghost use Rattle.xq_axes.specs.private.Named.{IsPlainTest};
 
 use crate::picks::Found;
-use std::alloc::Global;
 use xq_atoms::Want;
 use xq_meaning::Test;
 use xq_sources::RowLender;
 
 /// Of the rows up to the last one the part, one in so many, from which on a lender is asked to look
 /// for a name: it may look at all rows of the tree, and find none.
-const PART: u64 = 8;
+pub const PART: u64 = 8;
 
-/// How many of the places, which rise, come before the place: found by halves.
+/// How many of the places, which rise, come before the place.
 fn count_before(places: &[u32], place: u64) -> usize
     ensures within { result ≤ length places.now }
     ensures before { IsRising places.now → IsReached places.now result place }
 {
-    let mut low = 0;
-    let mut high = places.len();
-    while low < high {
-        let middle = low + (high - low) / 2;
-        if u64::from(places[middle]) < place {
-            low = middle + 1;
-        } else {
-            high = middle;
-        }
-    }
-    low
+    places.partition_point(|found| u64::from(*found) < place)
 }
 
 /// Those of the places, which rise, that lie from `low` to `high`.
@@ -63,34 +52,27 @@ pub fn is_large_part(low: u32, high: u32) -> bool {
 }
 
 /// Adds the places from `low` to `high` of the elements that pass the test, where it asks for a
-/// name and the lender tells them, and gives whether it did: no row is read.
+/// name and the lender tells them, and gives whether it did: no row is read or looked at.
 pub fn add_named<L: RowLender>(
-    alloc: Global,
-    source: &mut L,
+    source: &L,
     tree: usize,
     low: u32,
     high: u32,
     test: &Test,
     found: &mut Found,
 ) -> Result<bool, Want>
-    ensures added { L.is_clean source.new
-        → let t = tree_at (L.forest source.old) tree in
+    ensures added { L.is_clean source.now
+        → let t = tree_at (L.forest source.now) tree in
         (wanted : ℕ → Bool) → IsPlainTest wanted test.now t low high
         → low ≤ high + 1 → high < count (nodes t)
         → found.old.items ≡ below_where wanted low
         → IfOk result (λ is_told. is_told ≡ true
         → found.new.items ≡ below_where wanted (high + 1)) }
     ensures untold { IfOk result (λ is_told. is_told ≡ false → found.new ≡ found.old) }
-    ensures counts { L.meter source.new ≡ L.meter source.old }
-    ensures keeps { L.forest source.new ≡ L.forest source.old }
-    ensures was_clean { L.is_clean source.new → L.is_clean source.old }
 {
     let Some(name) = wanted_name(test) else {
         return Ok(false);
     };
-    if is_large_part(low, high) {
-        source.find_named(alloc, tree, name);
-    }
     let Some(places) = source.named(tree, name) else {
         return Ok(false);
     };

@@ -134,6 +134,7 @@ fn owner_at<L: RowLender>(
     ensures place { IfOk result (λ owner. owner.place ≡ place) }
     ensures rows { (L.meter source.new).rows ≡ (L.meter source.old).rows }
     ensures singles { (L.meter source.new).singles ≤ (L.meter source.old).singles + 1 }
+    ensures looks { (L.meter source.new).looks ≡ (L.meter source.old).looks }
     ensures keeps { L.forest source.new ≡ L.forest source.old }
     ensures was_clean { L.is_clean source.new → L.is_clean source.old }
 {
@@ -165,6 +166,7 @@ fn children_below<L: RowLender>(
         IsOwner t owner → (L.meter source.new).rows ≤ (L.meter source.old).rows
         + length (region axes.Child t (owner.place ∷ [])) }
     ensures singles { (L.meter source.new).singles ≡ (L.meter source.old).singles }
+    ensures looks { (L.meter source.new).looks ≡ (L.meter source.old).looks }
     ensures keeps { L.forest source.new ≡ L.forest source.old }
     ensures was_clean { L.is_clean source.new → L.is_clean source.old }
 {
@@ -197,6 +199,7 @@ pub fn children_of<L: RowLender>(
         → (L.meter source.new).rows ≤ (L.meter source.old).rows
         + length (region axes.Child (tree_at (L.forest source.old) tree) (place ∷ [])) }
     ensures singles { (L.meter source.new).singles ≤ (L.meter source.old).singles + 1 }
+    ensures looks { (L.meter source.new).looks ≡ (L.meter source.old).looks }
     ensures keeps { L.forest source.new ≡ L.forest source.old }
     ensures was_clean { L.is_clean source.new → L.is_clean source.old }
 {
@@ -222,6 +225,7 @@ pub fn first_children_of<L: RowLender>(
         → (L.meter source.new).rows ≤ (L.meter source.old).rows
         + length (region axes.Child (tree_at (L.forest source.old) tree) (place ∷ [])) }
     ensures singles { (L.meter source.new).singles ≤ (L.meter source.old).singles + 1 }
+    ensures looks { (L.meter source.new).looks ≡ (L.meter source.old).looks }
     ensures keeps { L.forest source.new ≡ L.forest source.old }
     ensures was_clean { L.is_clean source.new → L.is_clean source.old }
 {
@@ -286,6 +290,7 @@ pub fn last_child_of<L: RowLender>(
         → (L.meter source.new).rows ≤ (L.meter source.old).rows
         + length (region axes.Child (tree_at (L.forest source.old) tree) (place ∷ [])) }
     ensures singles { (L.meter source.new).singles ≤ (L.meter source.old).singles + 1 }
+    ensures looks { (L.meter source.new).looks ≡ (L.meter source.old).looks }
     ensures keeps { L.forest source.new ≡ L.forest source.old }
     ensures was_clean { L.is_clean source.new → L.is_clean source.old }
 {
@@ -314,6 +319,7 @@ pub fn attributes_of<L: RowLender>(
         → (L.meter source.new).rows ≤ (L.meter source.old).rows
         + length (region axes.Attributes (tree_at (L.forest source.old) tree) (place ∷ [])) }
     ensures singles { (L.meter source.new).singles ≤ (L.meter source.old).singles + 1 }
+    ensures looks { (L.meter source.new).looks ≡ (L.meter source.old).looks }
     ensures keeps { L.forest source.new ≡ L.forest source.old }
     ensures was_clean { L.is_clean source.new → L.is_clean source.old }
 {

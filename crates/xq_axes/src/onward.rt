@@ -130,6 +130,7 @@ pub fn search_on<L: RowLender>(
         + length (region axes.FollowingSibling (tree_at (L.forest source.old) tree) places.now) }
     ensures singles { (L.meter source.new).singles
         ≤ (L.meter source.old).singles + length places.now }
+    ensures looks { (L.meter source.new).looks ≡ (L.meter source.old).looks }
     ensures keeps { L.forest source.new ≡ L.forest source.old }
     ensures was_clean { L.is_clean source.new → L.is_clean source.old }
 {

@@ -1,6 +1,9 @@
 //! Nodes by the values of their attributes, where the lender tells where these lie.
-ghost use Rattle.std.specs.Prelude.{◌≡◌, ℕ, Bool, filter, map, IfOk, IfSome};
+ghost use Rattle.std.specs.Prelude.{◌≡◌, ◌+◌, ◌*◌, ◌≤◌, ℕ, Bool, filter, map, IfOk, IfSome};
 ghost use Rattle.xq_trees.specs.Items.{item_view, item_views, ItemView, Place as NodeAt};
+ghost use Rattle.xq_trees.specs.Forest.{count};
+ghost use Rattle.xq_trees.specs.Tree.{nodes};
+ghost use Rattle.xq_sources.specs.Meters.{GivesNone};
 ghost use Rattle.xq_sources.specs.Sources.{tree_at};
 ghost use Rattle.xq_axes.specs.Many.{spot};
 ghost use Rattle.xq_axes.specs.Owners.{has_valued, owns_valued};
@@ -69,7 +72,8 @@ fn keep_at(
 }
 
 /// Those of the items that have an attribute with the name and the value, in their order, where
-/// they are many, nodes of one tree, and the lender tells which nodes have one. No row is read.
+/// they are many, nodes of one tree, and the lender tells which nodes have one. No row is read; where
+/// the lender looks for the name, it looks at each row of the tree twice at most.
 pub fn with_value<L: RowLender>(
     alloc: Global,
     source: &mut L,
@@ -80,7 +84,10 @@ pub fn with_value<L: RowLender>(
     ensures kept { L.is_clean source.new → IfOk result (λ told. IfSome told (λ kept.
         item_views kept ≡ filter (has_valued (L.forest source.old) name.now value.now)
         (map item_view items.now))) }
-    ensures counts { L.meter source.new ≡ L.meter source.old }
+    ensures gives { GivesNone (L.meter source.old) (L.meter source.new) }
+    ensures sees { L.is_clean source.new → (most : ℕ)
+        → ((tree : ℕ) → count (nodes (tree_at (L.forest source.old) tree)) ≤ most)
+        → (L.meter source.new).looks ≤ (L.meter source.old).looks + 2 * most }
     ensures keeps { L.forest source.new ≡ L.forest source.old }
     ensures was_clean { L.is_clean source.new → L.is_clean source.old }
 {
@@ -90,7 +97,7 @@ pub fn with_value<L: RowLender>(
     let Some(Item::Node(node)) = items.first() else {
         return Ok(None);
     };
-    source.find_values(alloc, node.tree, name);
+    source.find_values(alloc, node.tree, name)?;
     let Some(owners) = owners_of(alloc, source, node.tree, name, value)? else {
         return Ok(None);
     };

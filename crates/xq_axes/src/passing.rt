@@ -47,6 +47,7 @@ pub fn search_rows<L: RowLender, J: Judge + Drop>(
         → (L.meter source.new).rows ≤ (L.meter source.old).rows
         + (span_end (tree_at (L.forest source.old) tree) (span low high) - low) }
     ensures singles { (L.meter source.new).singles ≡ (L.meter source.old).singles }
+    ensures looks { (L.meter source.new).looks ≡ (L.meter source.old).looks }
     ensures keeps { L.forest source.new ≡ L.forest source.old }
     ensures was_clean { L.is_clean source.new → L.is_clean source.old }
 {
@@ -165,6 +166,7 @@ pub fn end_of_node<L: RowLender>(
     ensures small { IfOk result (λ last. last < 8589934592) }
     ensures rows { (L.meter source.new).rows ≡ (L.meter source.old).rows }
     ensures singles { (L.meter source.new).singles ≤ (L.meter source.old).singles + 1 }
+    ensures looks { (L.meter source.new).looks ≡ (L.meter source.old).looks }
     ensures keeps { L.forest source.new ≡ L.forest source.old }
     ensures was_clean { L.is_clean source.new → L.is_clean source.old }
 {
@@ -191,6 +193,7 @@ pub fn search_before<L: RowLender>(
         → (L.meter source.new).rows ≤ (L.meter source.old).rows
         + length (region axes.Preceding (tree_at (L.forest source.old) tree) places.now) }
     ensures singles { (L.meter source.new).singles ≡ (L.meter source.old).singles }
+    ensures looks { (L.meter source.new).looks ≡ (L.meter source.old).looks }
     ensures keeps { L.forest source.new ≡ L.forest source.old }
     ensures was_clean { L.is_clean source.new → L.is_clean source.old }
 {
@@ -231,6 +234,7 @@ pub fn search_above<L: RowLender>(
         → (L.meter source.new).rows ≤ (L.meter source.old).rows
         + length (region (axis_above or_self) (tree_at (L.forest source.old) tree) places.now) }
     ensures singles { (L.meter source.new).singles ≡ (L.meter source.old).singles }
+    ensures looks { (L.meter source.new).looks ≡ (L.meter source.old).looks }
     ensures keeps { L.forest source.new ≡ L.forest source.old }
     ensures was_clean { L.is_clean source.new → L.is_clean source.old }
 {
@@ -263,6 +267,7 @@ fn least_end<L: RowLender>(
     ensures rows { (L.meter source.new).rows ≡ (L.meter source.old).rows }
     ensures singles { (L.meter source.new).singles
         ≤ (L.meter source.old).singles + length places.now }
+    ensures looks { (L.meter source.new).looks ≡ (L.meter source.old).looks }
     ensures keeps { L.forest source.new ≡ L.forest source.old }
     ensures was_clean { L.is_clean source.new → L.is_clean source.old }
 {
@@ -293,6 +298,7 @@ pub fn search_after<L: RowLender>(
         + length (region axes.Following (tree_at (L.forest source.old) tree) places.now) }
     ensures singles { (L.meter source.new).singles
         ≤ (L.meter source.old).singles + length places.now }
+    ensures looks { (L.meter source.new).looks ≡ (L.meter source.old).looks }
     ensures keeps { L.forest source.new ≡ L.forest source.old }
     ensures was_clean { L.is_clean source.new → L.is_clean source.old }
 {

@@ -1,13 +1,14 @@
 //! Steps to children after `//`.
 ghost use Rattle.std.specs.Prelude.{◌≡◌, ◌≤◌, ◌+◌, ◌*◌, ℕ, length, map, IfOk, OnOk};
 ghost use Rattle.xq_trees.specs.declared.Axis.TheVariants.{Descendant};
+ghost use Rattle.xq_sources.specs.Meters.{SeesAtMost};
 ghost use Rattle.xq_sources.specs.Sources.{tree_at};
 ghost use Rattle.xq_meaning.specs.Readings.{node_at};
 ghost use Rattle.xq_axes.specs.DoubleSlash.{after_double_slash, AreAfterDoubleSlash};
 ghost use Rattle.xq_trees.specs.Rising.{AreRising};
 ghost use Rattle.xq_axes.specs.Many.{spot};
 ghost use Rattle.xq_axes.specs.Nodes.{HaveAll};
-ghost use Rattle.xq_axes.specs.Scans.{region, places_of, AreOf};
+ghost use Rattle.xq_axes.specs.Scans.{region, rows_from, places_of, AreOf};
 ghost use Rattle.xq_axes.specs.private.Standing.{AreOfTrees};
 
 use crate::picks::Places;
@@ -25,6 +26,7 @@ fn ask_for_trees<L: RowLender>(alloc: Global, source: &mut L, nodes: &[Node]) ->
     ensures rows { (L.meter source.new).rows ≡ (L.meter source.old).rows }
     ensures singles { (L.meter source.new).singles
         ≤ (L.meter source.old).singles + length nodes.now }
+    ensures looks { (L.meter source.new).looks ≡ (L.meter source.old).looks }
     ensures keeps { L.forest source.new ≡ L.forest source.old }
     ensures was_clean { L.is_clean source.new → L.is_clean source.old }
 {
@@ -45,7 +47,7 @@ fn ask_for_trees<L: RowLender>(alloc: Global, source: &mut L, nodes: &[Node]) ->
 /// attribute.
 ///
 /// From nodes of one tree it reads each row below them once at most, and for each node at most two
-/// rows besides.
+/// rows besides. A look for a name with it, it looks at each row of the tree once at most.
 ///
 /// `Want::Store` where the source refuses a row, or gives rows out of order and isn't clean;
 /// `Want::Memory` where a growth was refused.
@@ -67,6 +69,9 @@ pub fn double_slash<L: RowLender>(
         + length (region Descendant (tree_at (L.forest source.old) tree) (places_of nodes.now)) }
     ensures singles { (L.meter source.new).singles
         ≤ (L.meter source.old).singles + 2 * length nodes.now }
+    ensures sees { L.is_clean source.new → (tree : ℕ) → AreOf tree nodes.now
+        → SeesAtMost (L.meter source.old) (L.meter source.new)
+        (rows_from (tree_at (L.forest source.old) tree) (places_of nodes.now)) }
     ensures keeps { L.forest source.new ≡ L.forest source.old }
     ensures was_clean { L.is_clean source.new → L.is_clean source.old }
 {
@@ -86,6 +91,7 @@ fn ask_for_tree<L: RowLender>(
     ensures rows { (L.meter source.new).rows ≡ (L.meter source.old).rows }
     ensures singles { (L.meter source.new).singles
         ≤ (L.meter source.old).singles + length places.now }
+    ensures looks { (L.meter source.new).looks ≡ (L.meter source.old).looks }
     ensures keeps { L.forest source.new ≡ L.forest source.old }
     ensures was_clean { L.is_clean source.new → L.is_clean source.old }
 {
@@ -98,7 +104,8 @@ fn ask_for_tree<L: RowLender>(
 /// The places in the tree of the nodes that [`double_slash`] finds from its nodes at the places,
 /// which rise, in the same order.
 ///
-/// It reads each row below them once at most, and for each place at most two rows besides.
+/// It reads each row below them once at most, and for each place at most two rows besides. A look
+/// for a name with it, it looks at each row of the tree once at most.
 ///
 /// `Want::Store` where the source refuses to read a row; `Want::Memory` where a growth was
 /// refused.
@@ -118,6 +125,9 @@ pub fn double_slash_in_tree<L: RowLender>(
         + length (region Descendant (tree_at (L.forest source.old) tree) places.now) }
     ensures singles { (L.meter source.new).singles
         ≤ (L.meter source.old).singles + 2 * length places.now }
+    ensures sees { L.is_clean source.new → AreRising (map (spot tree) places.now)
+        → SeesAtMost (L.meter source.old) (L.meter source.new)
+        (rows_from (tree_at (L.forest source.old) tree) places.now) }
     ensures keeps { L.forest source.new ≡ L.forest source.old }
     ensures was_clean { L.is_clean source.new → L.is_clean source.old }
 {

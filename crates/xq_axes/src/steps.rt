@@ -5,6 +5,7 @@ ghost use Rattle.xq_trees.specs.Forest.{count};
 ghost use Rattle.xq_trees.specs.Tree.{nodes};
 ghost use Rattle.xq_trees.specs.declared.Axis.TheVariants as axes;
 ghost use Rattle.xq_trees.specs.declared.items.Node.{Node as NodeLem};
+ghost use Rattle.xq_sources.specs.Meters.{SeesAtMost};
 ghost use Rattle.xq_sources.specs.Sources.{tree_at, HasNode};
 ghost use Rattle.xq_meaning.specs.Items.{in_document_order};
 ghost use Rattle.xq_meaning.specs.Steps.{axis_nodes};
@@ -12,14 +13,15 @@ ghost use Rattle.xq_meaning.specs.Readings.{node_at};
 ghost use Rattle.xq_trees.specs.Rising.{AreRising};
 ghost use Rattle.xq_trees.specs.Items.{Place as NodeAt, item_views};
 ghost use Rattle.xq_axes.specs.Nodes.{HaveAll, AreOnAxis, AreFirstOnAxis, IsLastOnAxis};
-ghost use Rattle.xq_axes.specs.Scans.{region, places_of, AreOf};
+ghost use Rattle.xq_axes.specs.Scans.{region, rows_from, places_of, AreOf};
 ghost use Rattle.xq_axes.specs.private.Hits.{is_wanted, below_where, IsRising};
 ghost use Rattle.xq_axes.specs.Many.{spot, is_found_from, AreSame, AreThere, IsNext, IsGathered, IsAt, AreKept, AreReached};
 
 use crate::attributes::search_attributes;
 use crate::backward::{Backward, search_back};
 use crate::children::search_children;
-use crate::downward::{ToDescendants, ToDescendantsOrSelf, search_below};
+use crate::downward::{ToDescendantsOrSelf, search_below};
+use crate::looks::search_descendants;
 use crate::merges::merge;
 use crate::near::{first_children_of, last_child_of};
 use crate::onward::search_on;
@@ -34,6 +36,7 @@ use xq_sources::RowLender;
 use xq_trees::{Axis, Item, Items, Node, comes_after, rises};
 
 /// The places of the nodes on the axis from one of the places, which rise, that pass the test.
+#[tactic(auto, using(crate::proofs::Seen::region_few))]
 fn search<L: RowLender>(
     alloc: Global,
     source: &mut L,
@@ -51,12 +54,15 @@ fn search<L: RowLender>(
         + length (region axis (tree_at (L.forest source.old) tree) places.now) }
     ensures singles { (L.meter source.new).singles
         ≤ (L.meter source.old).singles + length places.now }
+    ensures sees { L.is_clean source.new → IsRising places.now
+        → SeesAtMost (L.meter source.old) (L.meter source.new)
+        (rows_from (tree_at (L.forest source.old) tree) places.now) }
     ensures keeps { L.forest source.new ≡ L.forest source.old }
     ensures was_clean { L.is_clean source.new → L.is_clean source.old }
 {
     match axis {
         Axis::Child => search_children(alloc, source, tree, places, test),
-        Axis::Descendant => search_below(alloc, source, tree, ToDescendants, places, test),
+        Axis::Descendant => search_descendants(alloc, source, tree, places, test),
         Axis::DescendantOrSelf => {
             search_below(alloc, source, tree, ToDescendantsOrSelf, places, test)
         }
@@ -160,6 +166,8 @@ pub fn items_on_axis<L: RowLender>(
         → (L.meter source.new).rows ≤ (L.meter source.old).rows
         + length (region axis (tree_at (L.forest source.old) node.tree) (node.pre ∷ [])) }
     ensures singles { (L.meter source.new).singles ≤ (L.meter source.old).singles + 1 }
+    ensures sees { L.is_clean source.new → SeesAtMost (L.meter source.old) (L.meter source.new)
+        (count (nodes (tree_at (L.forest source.old) node.tree))) }
     ensures keeps { L.forest source.new ≡ L.forest source.old }
     ensures was_clean { L.is_clean source.new → L.is_clean source.old }
 {
@@ -187,6 +195,7 @@ pub fn first_children<L: RowLender>(
         → (L.meter source.new).rows ≤ (L.meter source.old).rows
         + length (region axes.Child (tree_at (L.forest source.old) node.tree) (node.pre ∷ [])) }
     ensures singles { (L.meter source.new).singles ≤ (L.meter source.old).singles + 1 }
+    ensures looks { (L.meter source.new).looks ≡ (L.meter source.old).looks }
     ensures keeps { L.forest source.new ≡ L.forest source.old }
     ensures was_clean { L.is_clean source.new → L.is_clean source.old }
 {
@@ -216,6 +225,7 @@ pub fn last_child<L: RowLender>(
         → (L.meter source.new).rows ≤ (L.meter source.old).rows
         + length (region axes.Child (tree_at (L.forest source.old) node.tree) (node.pre ∷ [])) }
     ensures singles { (L.meter source.new).singles ≤ (L.meter source.old).singles + 1 }
+    ensures looks { (L.meter source.new).looks ≡ (L.meter source.old).looks }
     ensures keeps { L.forest source.new ≡ L.forest source.old }
     ensures was_clean { L.is_clean source.new → L.is_clean source.old }
 {
@@ -246,6 +256,8 @@ pub fn places_on_axis<L: RowLender>(
         → (L.meter source.new).rows ≤ (L.meter source.old).rows
         + length (region axis (tree_at (L.forest source.old) node.tree) (node.pre ∷ [])) }
     ensures singles { (L.meter source.new).singles ≤ (L.meter source.old).singles + 1 }
+    ensures sees { L.is_clean source.new → SeesAtMost (L.meter source.old) (L.meter source.new)
+        (count (nodes (tree_at (L.forest source.old) node.tree))) }
     ensures keeps { L.forest source.new ≡ L.forest source.old }
     ensures was_clean { L.is_clean source.new → L.is_clean source.old }
 {
@@ -276,6 +288,9 @@ pub fn step_in_tree<L: RowLender>(
         + length (region axis (tree_at (L.forest source.old) tree) places.now) }
     ensures singles { (L.meter source.new).singles
         ≤ (L.meter source.old).singles + length places.now }
+    ensures sees { L.is_clean source.new → AreRising (map (spot tree) places.now)
+        → SeesAtMost (L.meter source.old) (L.meter source.new)
+        (rows_from (tree_at (L.forest source.old) tree) places.now) }
     ensures keeps { L.forest source.new ≡ L.forest source.old }
     ensures was_clean { L.is_clean source.new → L.is_clean source.old }
 {
@@ -304,6 +319,10 @@ fn add_step<L: RowLender>(
         contexts.now.places.items) }
     ensures singles { (L.meter source.new).singles
         ≤ (L.meter source.old).singles + length contexts.now.places.items }
+    ensures sees { L.is_clean source.new → IsRising contexts.now.places.items
+        → SeesAtMost (L.meter source.old) (L.meter source.new)
+        (rows_from (tree_at (L.forest source.old) contexts.now.tree)
+        contexts.now.places.items) }
     ensures keeps { L.forest source.new ≡ L.forest source.old }
     ensures was_clean { L.is_clean source.new → L.is_clean source.old }
 {
@@ -347,6 +366,11 @@ fn gather<L: RowLender>(
         → (L.meter source.new).rows ≤ (L.meter source.old).rows }
     ensures singles { (L.meter source.new).singles
         ≤ (L.meter source.old).singles + length gathered.old.places.items }
+    ensures sees { L.is_clean source.new → (contexts : List NodeLem) (index one : ℕ) → AreOf one
+        contexts
+        → IsAt contexts index context → AreKept contexts index gathered.old.tree
+        gathered.old.places.items
+        → SeesAtMost (L.meter source.old) (L.meter source.new) 0 }
     ensures gathers { OnOk result (
         (L.meter source.new).singles + length gathered.new.places.items
         ≤ (L.meter source.old).singles + length gathered.old.places.items + 1) }
@@ -388,6 +412,10 @@ fn step_from<L: RowLender>(
         + length (region axis (tree_at (L.forest source.old) tree) (places_of ns)) }
     ensures singles { (L.meter source.new).singles
         ≤ (L.meter source.old).singles + length contexts.now }
+    ensures sees { L.is_clean source.new → AreRising contexts.now
+        → (ns : List NodeLem) → AreSame contexts.now ns → (tree : ℕ) → AreOf tree ns
+        → SeesAtMost (L.meter source.old) (L.meter source.new)
+        (rows_from (tree_at (L.forest source.old) tree) (places_of ns)) }
     ensures keeps { L.forest source.new ≡ L.forest source.old }
     ensures was_clean { L.is_clean source.new → L.is_clean source.old }
 {
@@ -415,7 +443,7 @@ fn step_from<L: RowLender>(
 /// once (XPath 3.1, section 3.3), where the source has the nodes: in any order, of any trees.
 ///
 /// From nodes of one tree it reads each row of the axis' region once at most, and for each node at
-/// most one row besides.
+/// most one row besides. A look for a name with it, it looks at each row of the tree once at most.
 ///
 /// `Want::Store` where the source refuses a row, or gives rows out of order and isn't clean;
 /// `Want::Memory` where a growth was refused.
@@ -438,6 +466,9 @@ pub fn step<L: RowLender>(
         + length (region axis (tree_at (L.forest source.old) tree) (places_of nodes.now)) }
     ensures singles { (L.meter source.new).singles
         ≤ (L.meter source.old).singles + length nodes.now }
+    ensures sees { L.is_clean source.new → (tree : ℕ) → AreOf tree nodes.now
+        → SeesAtMost (L.meter source.old) (L.meter source.new)
+        (rows_from (tree_at (L.forest source.old) tree) (places_of nodes.now)) }
     ensures keeps { L.forest source.new ≡ L.forest source.old }
     ensures was_clean { L.is_clean source.new → L.is_clean source.old }
 {

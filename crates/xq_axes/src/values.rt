@@ -67,6 +67,7 @@ fn texts_below<L: RowLender>(
         → size ≡ (row_at (rows (tree_at (L.forest source.old) node.tree)) node.pre).size
         → IfOk result (λ text. string_bytes text
         ≡ texts (tree_below (L.forest source.old) (node_at (L.forest source.old) node)).below) }
+    ensures looks { (L.meter source.new).looks ≡ (L.meter source.old).looks }
     ensures keeps { L.forest source.new ≡ L.forest source.old }
     ensures was_clean { L.is_clean source.new → L.is_clean source.old }
 {
@@ -92,6 +93,7 @@ pub fn string_value<L: RowLender>(alloc: Global, source: &mut L, node: Node) -> 
     ensures value { L.is_clean source.new → IfOk result (λ text. string_bytes text
         ≡ string_value_lem (tree_below (L.forest source.old)
         (node_at (L.forest source.old) node))) }
+    ensures looks { (L.meter source.new).looks ≡ (L.meter source.old).looks }
     ensures keeps { L.forest source.new ≡ L.forest source.old }
     ensures was_clean { L.is_clean source.new → L.is_clean source.old }
 {

@@ -60,6 +60,7 @@ pub fn walk<L: RowLender, V: Visitor>(
         → (L.meter source.new).rows ≤ (L.meter source.old).rows
         + (span_end (tree_at (L.forest source.old) tree) (span low high) - low) }
     ensures singles { (L.meter source.new).singles ≡ (L.meter source.old).singles }
+    ensures looks { (L.meter source.new).looks ≡ (L.meter source.old).looks }
     ensures keeps { L.forest source.new ≡ L.forest source.old }
     ensures was_clean { L.is_clean source.new → L.is_clean source.old }
 {

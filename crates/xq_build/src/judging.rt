@@ -29,7 +29,8 @@ fn are_low(rows: &PackedRows) -> bool
     true
 }
 
-/// The same of rows that are lent.
+/// Whether no level of rows that are lent is over that of the children of the lowest nodes but
+/// one.
 pub fn are_low_lent(rows: &LentRows<'_>) -> bool
     ensures { result ≡ are_low_lem (map leaf rows.now) }
 {

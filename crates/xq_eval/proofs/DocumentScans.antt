@@ -116,10 +116,10 @@ no_each steps i part is scans =
 -- # Counts that grow
 
 pub grown_more : {a b : Readings} {m n : ℕ} → HasGrown a b m → m ≤ n → HasGrown a b n
-grown_more h le = record { rows = omega (arith, h.rows); singles = omega (arith, h.singles) }
+grown_more h le = record { rows = omega (arith, h.rows); singles = omega (arith, h.singles); sees = omega (arith, h.sees) }
 
 pub not_grown : (a b : Readings) (n : ℕ) → b ≡ a → HasGrown a b n
-not_grown a b n is = record { rows = (let e = ap (λ (r : Readings). r.rows) is in omega arith); singles = (let e = ap (λ (r : Readings). r.singles) is in omega arith) }
+not_grown a b n is = record { rows = (let e = ap (λ (r : Readings). r.rows) is in omega arith); singles = (let e = ap (λ (r : Readings). r.singles) is in omega arith); sees = (let e = ap (λ (r : Readings). r.rows + r.looks) is in omega arith) }
 
 -- from a time with the same counts
 pub grown_from : {a b c : Readings} {n : ℕ} → b ≡ a → HasGrown b c n → HasGrown a c n
@@ -133,7 +133,7 @@ grown_on f f' tree n k m grows there le first second =
     let next = ap (λ r. k * r) same in
     let both = add-mul n k (rows_of f tree) in
     let most = mul-le-mul_right (rows_of f tree) le in
-    record { rows = omega (arith, first.rows, second.rows); singles = omega (arith, first.singles, second.singles) }
+    record { rows = omega (arith, first.rows, second.rows); singles = omega (arith, first.singles, second.singles); sees = omega (arith, first.sees, second.sees) }
 
 pub once : {a b : Readings} {n : ℕ} → HasGrown a b n → HasGrown a b (1 * n)
 once {a} {b} {n} h = (let e : n ≡ 1 * n = omega arith in subst (HasGrown a b) e h)

@@ -23,7 +23,7 @@ use xq_trees::{Item, Items};
 /// The value of a predicate at each item, as its position tells it.
 #[derive(Drop)]
 pub enum ByPosition {
-    /// The same at each.
+    /// One value at each item.
     Same(Items),
     /// Whether the position compares so with a number.
     Compared(CompOp, i64),

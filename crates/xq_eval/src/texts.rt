@@ -99,7 +99,7 @@ fn double_slash_by_text<W: TreeStore>(
     Ok(keep_by_text(alloc, world, &found, step.predicate)?)
 }
 
-/// The same with a predicate that asks for the texts of a key.
+/// The nodes of `//` and a test that pass a predicate which asks for the texts of a key.
 fn double_slash_by_key<W: TreeStore>(
     alloc: Global,
     world: &mut W,

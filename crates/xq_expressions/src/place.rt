@@ -20,12 +20,14 @@ impl Model for Place {
 }
 
 impl Place {
+    /// No place.
     pub fn none() -> Place
         ensures { result ≡ None }
     {
         Place { next: 0 }
     }
 
+    /// The place with this number.
     pub fn at(place: usize) -> Place
         requires { place < 2 ^ 32 - 1 }
         ensures { result ≡ Some place }
@@ -35,6 +37,7 @@ impl Place {
         }
     }
 
+    /// The place's number; none where it is no place.
     pub fn get(&self) -> Option<usize>
         ensures { result ≡ self.now }
     {

@@ -64,12 +64,14 @@ pub struct Arity {
 }
 
 impl Arity {
+    /// So many arguments, no more and no fewer.
     fn exactly(count: usize) -> Arity
         ensures { result ≡ spec.exactly count }
     {
         Arity::between(count, count)
     }
 
+    /// From the one number of arguments to the other, both included.
     fn between(least: usize, greatest: usize) -> Arity
         ensures { result ≡ spec.between least greatest }
     {
@@ -79,6 +81,7 @@ impl Arity {
         }
     }
 
+    /// So many arguments or more.
     fn at_least(least: usize) -> Arity
         ensures { result ≡ spec.at_least least }
     {

@@ -30,6 +30,8 @@ pub(crate) fn request_of(kind: u8, body: &[u8]) -> Request<'_>
     }
 }
 
+/// The store that the body of a frame asks for: the size of the address in a byte, the
+/// address, and the text of the query.
 fn put_in(body: &[u8]) -> Request<'_>
     ensures { request_meaning result ≡ put_meaning body.now }
 {
@@ -46,6 +48,7 @@ fn put_in(body: &[u8]) -> Request<'_>
     }
 }
 
+/// The list that an empty body asks for.
 fn list_in(body: &[u8]) -> Request<'_>
     ensures { request_meaning result ≡ list_meaning body.now }
 {

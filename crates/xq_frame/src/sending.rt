@@ -29,6 +29,7 @@ pub fn send<W: Write>(writer: &mut W, bytes: &[u8], tries: &mut Tries) -> Result
     flush(writer, tries)
 }
 
+/// Has the writer send what it holds, and tries again where that was interrupted.
 fn flush<W: Write>(writer: &mut W, tries: &mut Tries) -> Result<()>
     ensures keeps { Keeps (W.contents writer.old) (W.contents writer.new) }
     ensures tries { tries.new.left ≤ tries.old.left }

@@ -14,7 +14,7 @@ use Rattle.xq_trees.specs.Tree.{Tree}
 use Rattle.xq_expressions.specs.declared.signatures.Function.TheVariants as function
 use Rattle.xq_sources.specs.Addresses.{Rise}
 use Rattle.xq_sources.specs.Sources.{HasNode}
-use Rattle.xq_meaning.specs.declared.plans.Plan.{Plan}
+use Rattle.xq_meaning.specs.declared.plans.Plan.{Plan, out-Plan}
 use Rattle.xq_meaning.specs.declared.plans.Plan.TheVariants as plan
 use Rattle.xq_meaning.specs.Doing.{go_on, in_turn}
 use Rattle.xq_meaning.specs.Forms as Forms
@@ -29,6 +29,7 @@ use Rattle.xq_operators.specs.declared.contexts.EvalContext.{EvalContext as Held
 use Rattle.xq_operators.specs.Runs.{views_of, ScansGive}
 use Rattle.xq_operators.specs.Views.{frame_at, nodes_in, FrameIn}
 use Rattle.xq_joins.specs.declared.paths.DocumentPath.{DocumentPath}
+use Rattle.xq_joins.specs.Paths.{steps_in}
 use Rattle.xq_joins.specs.private.Paths.{IsDocument, IsDocumentPath}
 
 -- # The document
@@ -64,6 +65,7 @@ root_is f n first = ap (λ pre. node_at f (record { tree = n.tree; pre = pre }))
 pub path_from : (frame : HeldFrame) (p : Plan) (address : Text) (path : DocumentPath) → p ≡ plan.Path (plan.Call function.Doc (plan.Str address ∷ [])) path.steps.now
     → IsDocument frame.addresses.now address path.document → IsDocumentPath frame path p
 path_from frame p address path form at = record {
+  steps = ap steps_in (ap out-Plan form ∙ plan.outs-Path (plan.Call function.Doc (plan.Str address ∷ [])) path.steps.now);
   there = λ f inside.
       let within : path.document.tree < length f = (let few = inside.addresses_in in let one = at.within in omega (arith, few, one)) in
       subst (HasNode f path.document.tree) (sym at.first) (has_root f path.document.tree within);

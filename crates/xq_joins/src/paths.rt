@@ -1,12 +1,14 @@
 //! Paths of scans from a document, of which only the number of nodes is asked: their places in its
 //! tree are enough, and no items are made (XQuery 3.1, section 3.3).
-ghost use Rattle.std.specs.Prelude.{◌≡◌, ◌∷◌, [], IfSome};
+ghost use Rattle.std.specs.Prelude.{◌≡◌, ◌*◌, ◌≤◌, ℕ, ◌∷◌, [], IfSome};
 ghost use Rattle.xq_meaning.specs.declared.plans.Plan.TheVariants as plan_of;
 ghost use Rattle.xq_meaning.specs.Arguments.{atomic};
 ghost use Rattle.xq_meaning.specs.Forms as Forms;
 ghost use Rattle.xq_meaning.specs.PlanMeaning.{plan_mean};
+ghost use Rattle.xq_operators.specs.Reads.{rows_of, only_counts, HasGrown};
 ghost use Rattle.xq_operators.specs.Views.{frame_at, FrameIn};
 ghost use Rattle.xq_joins.specs.Atoms.{Tells};
+ghost use Rattle.xq_joins.specs.Paths.{steps_of};
 ghost use Rattle.xq_joins.specs.private.Paths.{IsDocument, IsDocumentPath};
 
 use std::alloc::Global;
@@ -68,7 +70,9 @@ fn document_path<'a>(frame: EvalContext<'_>, plan: &'a Plan) -> Option<DocumentP
 }
 
 /// Whether the function asks of nodes only how many there are.
-fn counts(function: Function) -> bool {
+fn counts(function: Function) -> bool
+    ensures { result ≡ only_counts function }
+{
     matches!(
         function,
         Function::Count | Function::Exists | Function::Empty | Function::Boolean | Function::Not
@@ -94,7 +98,8 @@ fn are_taken(steps: &[PlanStep]) -> bool {
 
 /// The atom that a function gives which only counts, where its argument is a path of scans from a
 /// document that a literal names, as `count(doc("a")/b/c)`. None where it is anything else, or no
-/// document has the address: nothing was read or refused then.
+/// document has the address: nothing was read or refused then. For each step it looks at each row of
+/// the document once at most.
 pub fn count_of_path<L: RowLender>(
     alloc: Global,
     source: &mut L,
@@ -106,6 +111,9 @@ pub fn count_of_path<L: RowLender>(
         → Tells atomic (Forms.call function (plan_mean part.now ∷ [])
         (frame_at (L.forest source.old) frame.entry) (L.forest source.old))
         (L.forest source.old) result }
+    ensures reads { L.is_clean source.new → FrameIn (L.forest source.old) frame.entry
+        → (most : ℕ) → ((tree : ℕ) → rows_of (L.forest source.old) tree ≤ most)
+        → HasGrown (L.meter source.old) (L.meter source.new) (steps_of part.now * most) }
     ensures keeps { L.forest source.new ≡ L.forest source.old }
     ensures was_clean { L.is_clean source.new → L.is_clean source.old }
 {

@@ -155,6 +155,7 @@ fn add_block(blocks: &mut Vec<Vec<u8>>) -> Result<(), AllocError>
     Ok(())
 }
 
+/// So many bytes, each 0.
 fn zeros(alloc: Global, len: usize) -> Result<Vec<u8>, AllocError>
     ensures len { IfOk result (λ bytes. length bytes.items ≡ len) }
     ensures zeros { IfOk result (λ bytes. (i : ℕ) → slice_index bytes.items i ≡ 0) }
@@ -179,6 +180,7 @@ fn cut_blocks(blocks: &mut Vec<Vec<u8>>, len: usize)
     clear_end(&mut blocks[len / BLOCK], len % BLOCK);
 }
 
+/// Clears the bytes of the block from the place on.
 fn clear_end(block: &mut Vec<u8>, from: usize)
     requires { from ≤ length block.old.items }
     ensures len { length block.new.items ≡ length block.old.items }
@@ -189,6 +191,7 @@ fn clear_end(block: &mut Vec<u8>, from: usize)
     clear(&mut block[from..]);
 }
 
+/// Makes each byte 0.
 fn clear(bytes: &mut [u8])
     ensures len { length bytes.new ≡ length bytes.old }
     ensures clear { (i : ℕ) → slice_index bytes.new i ≡ 0 }
@@ -227,6 +230,7 @@ fn read_piece(blocks: &[Vec<u8>], at: usize, buf: &mut [u8]) -> usize
     n
 }
 
+/// Fills the buffer from the block, from the place on.
 fn copy_part(block: &[u8], from: usize, buf: &mut [u8])
     requires { from + length buf.old ≤ length block.now }
     ensures len { length buf.new ≡ length buf.old }
@@ -274,6 +278,7 @@ fn write_piece(blocks: &mut [Vec<u8>], at: usize, bytes: &[u8]) -> usize
     n
 }
 
+/// Writes the bytes into the block, from the place on.
 fn write_part(block: &mut Vec<u8>, from: usize, bytes: &[u8])
     requires { from + length bytes.now ≤ length block.old.items }
     ensures len { length block.new.items ≡ length block.old.items }

@@ -10,7 +10,7 @@ use Rattle.std.proofs.lemmas.List.FromFn.{length-range_with_len}
 use Rattle.std.proofs.lemmas.List.Sums.{length-filter, count_by-le-length}
 use Rattle.xq_axes.specs.DoubleSlash.{after_double_slash}
 use Rattle.xq_axes.specs.Nodes.{HaveAll}
-use Rattle.xq_axes.specs.Scans.{in_scan, region, places_of, AreOf as AreAllOf}
+use Rattle.xq_axes.specs.Scans.{in_scan, region, rows_from, places_of, AreOf as AreAllOf}
 use Rattle.xq_trees.specs.Forest.{count}
 use Rattle.xq_trees.specs.declared.Axis.{Axis}
 use Rattle.xq_trees.specs.declared.Axis.TheVariants.{Child, Descendant, DescendantOrSelf}
@@ -21,7 +21,7 @@ use Rattle.xq_trees.specs.Rows.{rows}
 use Rattle.xq_trees.specs.Tree.{Tree, nodes}
 use Rattle.xq_trees.proofs.Lists.{all_append, all_filter}
 use Rattle.xq_trees.proofs.Rising.{order_parts}
-use Rattle.xq_sources.specs.Meters.{Readings}
+use Rattle.xq_sources.specs.Meters.{Readings, SeesAtMost}
 use Rattle.xq_sources.specs.Sources.{tree_at, HasTree}
 use Rattle.xq_meaning.specs.declared.node_tests.Test.{Test}
 use Rattle.xq_meaning.specs.declared.node_tests.Test.TheVariants.{Any}
@@ -133,10 +133,14 @@ region_few axis t vs =
     let many = length-range_with_len 0 (count (nodes t)) in
     omega arith
 
+rows_few : (t : Tree) (vs : List ℕ) → rows_from t vs ≤ count (nodes t)
+rows_few t [] = omega arith
+rows_few t (v ∷ vs) = omega arith
+
 -- # What a call reads
 
 pub not_grown : (readings : Readings) (most : ℕ) → HasGrown readings readings most
-not_grown readings most = record { rows = omega arith; singles = omega arith }
+not_grown readings most = record { rows = omega arith; singles = omega arith; sees = omega arith }
 
 module _ (f : List Tree) (tree : ℕ) (views : List ItemView) (contexts : List Spot) (is : contexts ≡ nodes_among views) (h : AreOf f tree views) where
   pub contexts_of : AreAllOf tree contexts
@@ -151,19 +155,21 @@ module _ (f : List Tree) (tree : ℕ) (views : List ItemView) (contexts : List S
   -- a step from them
   pub step_grown : (axis : Axis) (before after : Readings)
       → after.rows ≤ before.rows + length (region axis (tree_at f tree) (places_of contexts)) → after.singles ≤ before.singles + length contexts
-      → HasGrown before after (rows_of f tree)
-  step_grown axis before after rows singles = record {
+      → SeesAtMost before after (rows_from (tree_at f tree) (places_of contexts)) → HasGrown before after (rows_of f tree)
+  step_grown axis before after rows singles sees = record {
     rows = (let few = region_few axis (tree_at f tree) (places_of contexts) in omega arith);
     singles = (let few = contexts_few in omega arith);
+    sees = (let few = rows_few (tree_at f tree) (places_of contexts) in omega arith);
   }
 
   -- `//` and a step to children from them
   pub double_slash_grown : (before after : Readings)
       → after.rows ≤ before.rows + length (region Descendant (tree_at f tree) (places_of contexts)) → after.singles ≤ before.singles + 2 * length contexts
-      → HasGrown before after (2 * rows_of f tree)
-  double_slash_grown before after rows singles = record {
+      → SeesAtMost before after (rows_from (tree_at f tree) (places_of contexts)) → HasGrown before after (2 * rows_of f tree)
+  double_slash_grown before after rows singles sees = record {
     rows = (let few = region_few Descendant (tree_at f tree) (places_of contexts) in omega arith);
     singles = (let few = contexts_few in omega arith);
+    sees = (let few = rows_few (tree_at f tree) (places_of contexts) in omega arith);
   }
 
   pub step_found : (axis : Axis) (test : Test) (nodes : List Spot) (found : List ItemView)

@@ -5,14 +5,14 @@ use Rattle.std.proofs.Math.Nat.{add-mul, mul-le-mul_right}
 use Rattle.std.proofs.lemmas.List.{map-append, take_more, length-map, get_or-map, length-drop, take-append-drop}
 use Rattle.xq_axes.specs.Many.{spot, AreReached}
 use Rattle.xq_axes.specs.Nodes.{HaveAll}
-use Rattle.xq_axes.specs.Scans.{region, places_of}
+use Rattle.xq_axes.specs.Scans.{region, rows_from, places_of}
 use Rattle.xq_trees.specs.declared.Axis.{Axis}
 use Rattle.xq_trees.specs.declared.items.Node.{Node as Spot}
 use Rattle.xq_trees.specs.Items.{Place as NodeAt, ItemView}
 use Rattle.xq_trees.specs.Rising.{AreRising, document_order}
 use Rattle.xq_trees.specs.Tree.{Tree}
 use Rattle.xq_trees.proofs.Rising.{rising_none, rising_more, order_less}
-use Rattle.xq_sources.specs.Meters.{Readings}
+use Rattle.xq_sources.specs.Meters.{Readings, SeesAtMost}
 use Rattle.xq_sources.specs.Sources.{tree_at, HasNode}
 use Rattle.xq_meaning.specs.declared.node_tests.Test.{Test}
 use Rattle.xq_meaning.specs.declared.plans.PlanStep.{PlanStep}
@@ -158,8 +158,8 @@ module _ (trees : List Tree) (n : Spot) (steps : List PlanStep) (i : ℕ) (place
 
   pub step_reads : (axis : Axis) (start now after : Readings) → HasGrown start now (i * rows_of trees n.tree)
       → after.rows ≤ now.rows + length (region axis (tree_at trees n.tree) places) → after.singles ≤ now.singles + length places
-      → HasGrown start after ((i + 1) * rows_of trees n.tree)
-  step_reads axis start now after so_far rows singles =
+      → SeesAtMost now after (rows_from (tree_at trees n.tree) places) → HasGrown start after ((i + 1) * rows_of trees n.tree)
+  step_reads axis start now after so_far rows singles sees =
       let ns = spots n.tree places in
       let views = views_of n.tree places in
       let r = rows_of trees n.tree in
@@ -167,9 +167,9 @@ module _ (trees : List Tree) (n : Spot) (steps : List PlanStep) (i : ℕ) (place
       let many = ap length back in
       let rows_here : after.rows ≤ now.rows + length (region axis (tree_at trees n.tree) (places_of ns)) = subst (λ ps. after.rows ≤ now.rows + length (region axis (tree_at trees n.tree) ps)) (sym back) rows in
       let singles_here : after.singles ≤ now.singles + length ns = omega (arith, singles, length_spots n.tree places) in
-      let more = step_grown trees n.tree views ns (among_views n.tree places) before.gives.of_tree axis now after rows_here singles_here in
+      let more = step_grown trees n.tree views ns (among_views n.tree places) before.gives.of_tree axis now after rows_here singles_here (subst (λ ps. SeesAtMost now after (rows_from (tree_at trees n.tree) ps)) (sym back) sees) in
       let sum = add-mul i 1 r in
-      record { rows = omega (arith, so_far.rows, more.rows, sum); singles = omega (arith, so_far.singles, more.singles, sum) }
+      record { rows = omega (arith, so_far.rows, more.rows, sum); singles = omega (arith, so_far.singles, more.singles, sum); sees = omega (arith, so_far.sees, more.sees, sum) }
     where
       length_spots : (tree : ℕ) (ps : List ℕ) → length (spots tree ps) ≡ length ps
       length_spots tree [] = refl
@@ -177,21 +177,21 @@ module _ (trees : List Tree) (n : Spot) (steps : List PlanStep) (i : ℕ) (place
 
   pub two_steps_read : (start now after : Readings) → HasGrown start now (i * rows_of trees n.tree)
       → after.rows ≤ now.rows + length (region Descendant (tree_at trees n.tree) places) → after.singles ≤ now.singles + 2 * length places
-      → HasGrown start after ((i + 2) * rows_of trees n.tree)
-  two_steps_read start now after so_far rows singles =
+      → SeesAtMost now after (rows_from (tree_at trees n.tree) places) → HasGrown start after ((i + 2) * rows_of trees n.tree)
+  two_steps_read start now after so_far rows singles sees =
       let ns = spots n.tree places in
       let r = rows_of trees n.tree in
       let many = length-map places (spot n.tree) in
       let rows_here : after.rows ≤ now.rows + length (region Descendant (tree_at trees n.tree) (places_of ns)) = subst (λ ps. after.rows ≤ now.rows + length (region Descendant (tree_at trees n.tree) ps)) (sym (places_back n.tree places)) rows in
-      let more = double_slash_grown trees n.tree (views_of n.tree places) ns (among_views n.tree places) before.gives.of_tree now after rows_here (omega (arith, singles, many)) in
+      let more = double_slash_grown trees n.tree (views_of n.tree places) ns (among_views n.tree places) before.gives.of_tree now after rows_here (omega (arith, singles, many)) (subst (λ ps. SeesAtMost now after (rows_from (tree_at trees n.tree) ps)) (sym (places_back n.tree places)) sees) in
       let sum = add-mul i 2 r in
-      record { rows = omega (arith, so_far.rows, more.rows, sum); singles = omega (arith, so_far.singles, more.singles, sum) }
+      record { rows = omega (arith, so_far.rows, more.rows, sum); singles = omega (arith, so_far.singles, more.singles, sum); sees = omega (arith, so_far.sees, more.sees, sum) }
 
 -- a bound on fewer steps is one on all
 pub reads_within : (before after : Readings) (i k r : ℕ) → i ≤ k → HasGrown before after (i * r) → HasGrown before after (k * r)
 reads_within before after i k r le h =
     let most = mul-le-mul_right r le in
-    record { rows = omega (arith, h.rows, most); singles = omega (arith, h.singles, most) }
+    record { rows = omega (arith, h.rows, most); singles = omega (arith, h.singles, most); sees = omega (arith, h.sees, most) }
 
 -- # From items that are nodes of one tree
 
@@ -233,13 +233,14 @@ module _ (f : List Tree) (t : ℕ) (places : List ℕ) (views : List ItemView) (
     in_tree_inside = of_in f tree views h.has_tree h.of_tree
 
     pub in_tree_reads : (axis : Axis) (before after : Readings) → after.rows ≤ before.rows + length (region axis (tree_at f t) places) → after.singles ≤ before.singles + length places
-        → HasGrown before after (rows_of f tree)
-    in_tree_reads axis before after rows singles =
+        → SeesAtMost before after (rows_from (tree_at f t) places) → HasGrown before after (rows_of f tree)
+    in_tree_reads axis before after rows singles sees =
         let back = places_back t places in
         let many = length-map places (spot t) in
         step_grown f tree views (spots t places) contexts_are h axis before after
         (subst (λ ps. after.rows ≤ before.rows + length (region axis (tree_at f tree) ps)) (sym back) (subst (λ n. after.rows ≤ before.rows + length (region axis (tree_at f n) places)) is_tree rows))
         (omega (arith, singles, many))
+        (subst (λ ps. SeesAtMost before after (rows_from (tree_at f tree) ps)) (sym back) (subst (λ n. SeesAtMost before after (rows_from (tree_at f n) places)) is_tree sees))
 
     pub in_tree_found : (axis : Axis) (test : Test) (found : List ℕ) (items : List ItemView) → AreReached f axis test t places found → items ≡ views_of t found → AreOf f tree items
     in_tree_found axis test found items reached is =
@@ -269,4 +270,4 @@ module _ (f : List Tree) (n : Spot) (steps : List PlanStep) (k : ℕ) (views : L
       let all : length steps ≡ k + m = (let d = length-drop k steps in omega (arith, d, within)) in
       let sum = add-mul k m r in
       let whole = ap (λ l. l * r) all in
-      record { rows = omega (arith, first.rows, rest.rows, sum, whole); singles = omega (arith, first.singles, rest.singles, sum, whole) }
+      record { rows = omega (arith, first.rows, rest.rows, sum, whole); singles = omega (arith, first.singles, rest.singles, sum, whole); sees = omega (arith, first.sees, rest.sees, sum, whole) }

@@ -1,7 +1,8 @@
 //! Steps along the axes (XQuery 3.1, sections 3.3.2 and 3.3.3).
-ghost use Rattle.std.specs.Prelude.{◌≡◌, ◌*◌, ◌∷◌, [], ℕ, List, map, IfOk, Ok};
+ghost use Rattle.std.specs.Prelude.{◌≡◌, ◌≤◌, ◌*◌, ◌∷◌, [], ℕ, List, map, IfOk, Ok};
 ghost use Rattle.xq_trees.specs.declared.Axis.TheVariants as axes;
 ghost use Rattle.xq_trees.specs.Items.{item_view, item_views, ItemView};
+ghost use Rattle.xq_sources.specs.Meters.{SeesAtMost};
 ghost use Rattle.xq_sources.specs.Sources.{HasNode};
 ghost use Rattle.xq_meaning.specs.Items.{Node as NodeItem};
 ghost use Rattle.xq_meaning.specs.Readings.{node_at, items_at, AreIn};
@@ -21,7 +22,8 @@ use xq_meaning::Test;
 use xq_sources::TreeStore;
 use xq_trees::{Axis, Item, Items, Node};
 
-/// The nodes on an axis from the context node that pass the test, in axis order.
+/// The nodes on an axis from the context node that pass the test, in axis order. It looks at each
+/// row of the node's tree once at most, a look for a name with it.
 pub fn axis_items<W: TreeStore>(
     alloc: Global,
     world: &mut W,
@@ -34,6 +36,9 @@ pub fn axis_items<W: TreeStore>(
     ensures gives { W.is_clean world.new → FrameIn (W.forest world.old) frame.entry
         → GivesSequence (on_axis axis test.now (focus_at (W.forest world.old) frame.entry.focus)
         (W.forest world.old)) (W.forest world.new) result }
+    ensures reads { W.is_clean world.new → (most : ℕ)
+        → ((tree : ℕ) → rows_of (W.forest world.old) tree ≤ most)
+        → SeesAtMost (W.meter world.old) (W.meter world.new) most }
 {
     let node = context_node(frame.focus)?;
     let items = xq_axes::items_on_axis(alloc, world, node, axis, test)?;
@@ -79,7 +84,8 @@ pub fn last_child<W: TreeStore>(
     Ok(items)
 }
 
-/// [`scan`] from one node.
+/// [`scan`] from one node. It looks at each row of the node's tree once at most, a look for a name
+/// with it.
 pub fn scan_from<W: TreeStore>(
     alloc: Global,
     world: &mut W,
@@ -94,6 +100,9 @@ pub fn scan_from<W: TreeStore>(
         × (Forms.scan axis test.now (NodeItem (node_at (W.forest world.old) node) ∷ [])
         (W.forest world.old)
         ≡ (Ok (items_at (W.forest world.new) (item_views found)), W.forest world.new))) }
+    ensures reads { W.is_clean world.new → (most : ℕ)
+        → ((tree : ℕ) → rows_of (W.forest world.old) tree ≤ most)
+        → SeesAtMost (W.meter world.old) (W.meter world.new) most }
 {
     xq_axes::items_on_axis(alloc, world, node, axis, test)
 }

@@ -1,6 +1,6 @@
 //! Calls with one argument, the nodes of one step, that give one atom: it is told without a list of
 //! the nodes.
-ghost use Rattle.std.specs.Prelude.{◌≡◌, false, ℕ, ◌∷◌, [], List, Ok, IfOk, IfSome};
+ghost use Rattle.std.specs.Prelude.{◌≡◌, true, false, IsSome, ℕ, ◌∷◌, [], List, Ok, IfOk, IfSome};
 ghost use Rattle.xq_atoms.specs.Atom.{atomic_of};
 ghost use Rattle.xq_atoms.specs.Text.{Text};
 ghost use Rattle.xq_trees.specs.Tree.{Tree};
@@ -9,6 +9,7 @@ ghost use Rattle.xq_meaning.specs.Arguments.{atomic};
 ghost use Rattle.xq_meaning.specs.Functions as Functions;
 ghost use Rattle.xq_meaning.specs.Items.{Node as NodeItem, atomized};
 ghost use Rattle.xq_meaning.specs.Readings.{node_at};
+ghost use Rattle.xq_operators.specs.Reads.{only_counts};
 ghost use Rattle.xq_operators.specs.Views.{nodes_in};
 
 use crate::atoms::of_node;
@@ -46,7 +47,8 @@ pub fn is_told(function: Function) -> bool
 
 /// What a function gives that only asks how many nodes there are.
 fn counted(function: Function, places: &[u32]) -> Option<Atom>
-    ensures { IfSome result (λ atom. (trees : List Tree) (addresses : List Text) (tree : ℕ)
+    ensures counts { only_counts function ≡ true → IsSome result }
+    ensures tells { IfSome result (λ atom. (trees : List Tree) (addresses : List Text) (tree : ℕ)
         → Functions.of_one function trees addresses (nodes_in trees tree places.now)
         ≡ Ok (atomic (atomic_of atom))) }
 {
@@ -117,7 +119,7 @@ fn only_place(places: &[u32]) -> Option<u32>
 }
 
 /// The atom that a call gives of the nodes at these places of a tree, in their order; None where
-/// it is not told so.
+/// it is not told so. A function that only asks how many there are reads nothing.
 pub fn call_on_places<L: RowLender>(
     alloc: Global,
     source: &mut L,
@@ -128,6 +130,7 @@ pub fn call_on_places<L: RowLender>(
     ensures tells { L.is_clean source.new → (addresses : List Text) → TellsAtom
         (Functions.of_one function (L.forest source.old) addresses
         (nodes_in (L.forest source.old) tree places.now)) result }
+    ensures reads { only_counts function ≡ true → L.meter source.new ≡ L.meter source.old }
     ensures keeps { L.forest source.new ≡ L.forest source.old }
     ensures was_clean { L.is_clean source.new → L.is_clean source.old }
 {

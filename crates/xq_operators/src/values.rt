@@ -18,7 +18,7 @@ use xq_expressions::Quantifier;
 use xq_trees::{Item, Items};
 use xq_tuples::SlotValue;
 
-/// The same items.
+/// A copy of the items.
 pub fn copied(alloc: Global, items: &[Item]) -> Result<Items, Want>
     ensures { IfOk result (λ copies. item_views copies ≡ map item_view items.now) }
 {

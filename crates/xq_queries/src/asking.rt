@@ -72,7 +72,7 @@ fn is_in_range(item: &Item)
     }
 }
 
-/// The same of each item.
+/// Nothing: the numbers among the items are within the bounds of their types.
 fn are_in_range(items: &[Item])
     ensures { AreViewsInRange (map item_view items.now) }
 {

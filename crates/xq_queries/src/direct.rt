@@ -51,7 +51,7 @@ fn conditional(test: Boxed<Plan>, positive: Boxed<Plan>, negative: Boxed<Plan>) 
     Plan::If(test, positive, negative)
 }
 
-/// The same, as a part of another plan.
+/// The plan of an expression, as a part of another plan.
 #[cycle(direct)]
 fn boxed(alloc: Global, expr: Boxed<Expr>) -> Result<Boxed<Plan>, Want>
     ensures same { IfOk result (λ plan. IsDirect expr plan) }
@@ -61,7 +61,8 @@ fn boxed(alloc: Global, expr: Boxed<Expr>) -> Result<Boxed<Plan>, Want>
     Ok(Boxed::new(alloc, plan)?)
 }
 
-/// The same of each expression, from the last to the first, since the last is taken off at no cost.
+/// The plans of the expressions, made from the last to the first, since the last is taken off at
+/// no cost.
 #[cycle(direct)]
 fn each(alloc: Global, exprs: Items<Expr>) -> Result<Items<Plan>, Want>
     ensures same { IfOk result (λ plans. AreDirect exprs plans) }
@@ -77,7 +78,7 @@ fn each(alloc: Global, exprs: Items<Expr>) -> Result<Items<Plan>, Want>
     Ok(Items::from_vec(plans))
 }
 
-/// The same of the name of a constructed node.
+/// The plan of the name of a constructed node.
 #[cycle(direct)]
 fn constructor_name(alloc: Global, name: ConstructorName) -> Result<Boxed<Plan>, Want>
     ensures same { IfOk result (λ plan. NamesDirectly name plan) }
@@ -89,7 +90,7 @@ fn constructor_name(alloc: Global, name: ConstructorName) -> Result<Boxed<Plan>,
     }
 }
 
-/// The same by way of a normal form.
+/// The plan of an expression by way of its normal form.
 fn by_normal_form(alloc: Global, expr: &Expr) -> Result<Plan, Want>
     ensures same { IfOk result (λ plan. IsDirect expr.now plan) }
     ensures scans { IfOk result (λ plan. ScansItsDocument expr.now plan) }

@@ -166,6 +166,7 @@ pub const REGISTER_SCANS: [Scan; 3] = [
 ];
 
 impl From {
+    /// The nodes, in the tree 0.
     fn nodes(self, alloc: Global) -> Result<Vec<Node>, AllocError> {
         match self {
             From::At(places) => nodes_at(alloc, places),
@@ -183,6 +184,7 @@ impl To {
         }
     }
 
+    /// Whether the nodes are these.
     fn are(self, nodes: &[Node]) -> bool {
         match self {
             To::At(places) => are_at(nodes, places),
@@ -201,6 +203,7 @@ fn is_at(node: Option<&Node>, pre: u32) -> bool {
     }
 }
 
+/// The nodes that stand at the same place within each book; the first of them is at `first`.
 fn each_book(alloc: Global, first: u32) -> Result<Vec<Node>, AllocError> {
     let mut nodes = Vec::new(alloc);
     for book in 0..BOOKS {
@@ -226,7 +229,10 @@ pub fn read_by<L: RowLender>(
     let after = source.meter();
     let rows = after.rows().saturating_sub(before.rows());
     let singles = after.singles().saturating_sub(before.singles());
-    let holds = to.are(&found) && rows <= most && singles <= nodes.len() as u64;
+    let holds = to.are(&found)
+        && rows <= most
+        && singles <= nodes.len() as u64
+        && after.looks() == before.looks();
     Ok(if holds { Some((rows, singles)) } else { None })
 }
 

@@ -21,6 +21,7 @@ const MAX_FRAMES: u64 = 1_000_000;
 /// How the program ends where there is no store to serve, whatever the cause.
 const CANNOT_OPEN: (u8, &str) = (1, "xq_server: cannot open the store");
 
+/// Does the program's work, and says on standard error how it ended where that wants a line.
 fn main(rt: HostRuntime) -> ExitCode {
     let (status, line) = conclusion(&rt);
     if !line.is_empty() {
@@ -40,6 +41,7 @@ fn conclusion(rt: &HostRuntime) -> (u8, &'static str) {
     }
 }
 
+/// What the words of the command line ask for.
 fn asked_by_arguments<R: Env + AllocGlobal>(rt: &R) -> Asked {
     let arguments = match arguments(rt) {
         Ok(arguments) => arguments,
@@ -67,6 +69,7 @@ fn arguments<R: Env + AllocGlobal>(rt: &R) -> Result<Vec<String>, Asked> {
     }
 }
 
+/// Prints the text on standard output.
 fn print_help<R: Print>(rt: &R, text: &str) -> End {
     match io::writer(rt).write_all(text.as_bytes()) {
         Ok(()) => End::Finished,
@@ -74,6 +77,7 @@ fn print_help<R: Print>(rt: &R, text: &str) -> End {
     }
 }
 
+/// Serves a database in memory: the exit status, and the line on standard error.
 fn serve_in_memory<R: Input + Print + AllocGlobal>(rt: &R) -> (u8, &'static str) {
     let Ok(memory) = MemoryStore::new(rt.alloc()) else {
         return CANNOT_OPEN;
@@ -83,6 +87,7 @@ fn serve_in_memory<R: Input + Print + AllocGlobal>(rt: &R) -> (u8, &'static str)
     outcome(end)
 }
 
+/// Serves the database in the file: the exit status, and the line on standard error.
 fn serve_file(rt: &HostRuntime, path: &str) -> (u8, &'static str) {
     let Some(file) = DiskStore::open(rt, path) else {
         return CANNOT_OPEN;

@@ -54,6 +54,7 @@ pub(crate) fn carry_out<S: Alter + Drop>(
     }
 }
 
+/// Answers a query: the printed value of its text over the documents of the store.
 fn answer_query<S: Alter + Drop>(
     alloc: Global,
     store: &mut Store<S>,
@@ -97,6 +98,8 @@ fn document_of<S: Alter + Drop>(
     Ok(document)
 }
 
+/// Answers a store: the document that the text makes goes under the address, in place of one
+/// that is there.
 fn answer_put<S: Alter + Drop>(
     alloc: Global,
     store: &mut Store<S>,
@@ -119,6 +122,7 @@ fn answer_put<S: Alter + Drop>(
     }
 }
 
+/// Answers a drop of the document under the address.
 fn answer_remove<S: Alter + Drop>(store: &mut Store<S>, address: &[u8]) -> Result<Answer, Fault>
     ensures tells { IsClean S.Store store.new → (m : Map) → StandsFor S.Store store.old m
         → (later : Map) × Tells m (remove_one address.now) later result
@@ -136,6 +140,7 @@ fn answer_remove<S: Alter + Drop>(store: &mut Store<S>, address: &[u8]) -> Resul
     }
 }
 
+/// Answers a list: the addresses of all documents, printed.
 fn answer_list<S: Alter + Drop>(alloc: Global, store: &mut Store<S>) -> Result<Answer, Fault>
     ensures tells { IsClean S.Store store.new → (m : Map) → StandsFor S.Store store.old m
         → Tells m (list) m result }

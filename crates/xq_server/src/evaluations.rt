@@ -55,7 +55,7 @@ struct Question<'a, P> {
     product: PhantomData<P>,
 }
 
-/// The same of a store that is handed over and given back.
+/// What the plan's value makes over the documents of a store, which is handed over and given back.
 fn product_of<S: Alter + Drop, P: Product>(
     store: Store<S>,
     question: Question<'_, P>,
@@ -74,7 +74,7 @@ fn product_of<S: Alter + Drop, P: Product>(
     over_view::<S, P, Brand>(question.alloc, store, question.plan)
 }
 
-/// The same where `O` is the store as the view of it begins.
+/// What the plan's value makes over a view of the store, which `O` tells as the view begins.
 fn over_view<S: Alter + Drop, P: Product, O: Origin>(
     alloc: Global,
     store: Store<S>,

@@ -25,6 +25,7 @@ pub(crate) fn listing(alloc: Global, addresses: &[String]) -> Result<String, Fau
     Ok(text)
 }
 
+/// The addresses as strings with commas between them; `()` for none.
 fn joined(alloc: Global, addresses: &[String]) -> Result<String, Want>
     ensures text { IfOk result (λ text. string_bytes text
         ≡ listing_lem (map string_bytes addresses.now)) }

@@ -30,7 +30,7 @@ impl Drop for QueryPlan {
     }
 }
 
-/// The same, to be held.
+/// The plan of a query's text, to be held; a refusal is that of [`plan_of`].
 pub(crate) fn understand(alloc: Global, text: &[u8]) -> Result<QueryPlan, Fault>
     ensures { MatchResult result (λ held. Understands text.now (Ok held.plan))
         (λ fault. Understands text.now (Err fault)) }

@@ -28,6 +28,7 @@ pub(crate) fn write_reply(out: &mut Vec<u8>, tag: u32, answer: Result<Answer, Fa
     }
 }
 
+/// Adds a reply that has a text; that memory is wanting, where the text finds no room.
 fn write_text(out: &mut Vec<u8>, tag: u32, text: &str)
     requires room { vec_len out.old + 32 ≤ vec_capacity out.old }
     requires short { length text.now ≤ longest_text }
@@ -41,6 +42,7 @@ fn write_text(out: &mut Vec<u8>, tag: u32, text: &str)
     }
 }
 
+/// Adds a reply, for which there is room.
 fn write(out: &mut Vec<u8>, tag: u32, status: u8, text: &str)
     requires room { vec_len out.old + (length text.now + 9) ≤ vec_capacity out.old }
     requires status { status ≤ 2 }

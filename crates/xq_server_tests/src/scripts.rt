@@ -52,6 +52,7 @@ pub struct Sink {
 }
 
 impl Sink {
+    /// Whether this call is interrupted; one interruption fewer is left.
     fn interrupted(&mut self) -> bool {
         let interrupted = self.interruptions > 0;
         self.interruptions = self.interruptions.saturating_sub(1);

@@ -201,7 +201,7 @@ fn check_service(
     Ok(())
 }
 
-/// The same for each of the services of a table.
+/// Checks each of the services of a table.
 fn check_table(
     rt: &(impl Abort + AllocGlobal),
     (sent, replies, services): Table,
@@ -212,6 +212,7 @@ fn check_table(
     Ok(())
 }
 
+/// Each table of services: what was sent is answered as far as the reader and the writer allow.
 #[test]
 fn services(rt: HostRuntime) -> Result<(), Fail> {
     for table in &TABLES {

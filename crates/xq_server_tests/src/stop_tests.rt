@@ -197,21 +197,25 @@ fn check_stops(rt: &(impl Abort + AllocGlobal), stop: Stop, log_pages: usize) ->
     Ok(())
 }
 
+/// The log of the file stops at each of its calls.
 #[test]
 fn of_the_log(rt: HostRuntime) -> Result<(), Fail> {
     check_stops(&rt, Stop::OfLog, 128)
 }
 
+/// The database's file stops at each of its calls.
 #[test]
 fn of_the_database(rt: HostRuntime) -> Result<(), Fail> {
     check_stops(&rt, Stop::OfDatabase, 128)
 }
 
+/// The log stops at each of its calls, where it is copied into the database at each commit.
 #[test]
 fn of_a_short_log(rt: HostRuntime) -> Result<(), Fail> {
     check_stops(&rt, Stop::OfLog, 1)
 }
 
+/// The database's file stops at each of its calls, where the log is copied at each commit.
 #[test]
 fn of_the_database_under_a_short_log(rt: HostRuntime) -> Result<(), Fail> {
     check_stops(&rt, Stop::OfDatabase, 1)

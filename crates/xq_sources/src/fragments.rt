@@ -79,7 +79,7 @@ impl ConstructedTrees {
         self.push_packed(tree)
     }
 
-    /// The same of a tree whose rows are packed.
+    /// Adds a tree whose rows are packed after the others; where it is refused, they are as before.
     pub fn push_packed(&mut self, tree: PackedTree) -> Result<(), Want>
         ensures ok { OnOk result (⟦<ConstructedTrees as TreeSource>⟧.forest self.new
             ≡ ⟦<ConstructedTrees as TreeSource>⟧.forest self.old ++ tree ∷ []) }
@@ -112,7 +112,8 @@ impl ConstructedTrees {
         self.trees.push_lone(kind, name, value)
     }
 
-    /// The same of an element with one text below it.
+    /// Adds an element with one text below it after the others, where there is such a tree, and says
+    /// whether it did.
     pub fn push_around(&mut self, name: &str, value: &str) -> Result<bool, Want>
         ensures grown { IfOk result (λ did. did ≡ true
             → ⟦<ConstructedTrees as TreeSource>⟧.forest self.new
@@ -272,13 +273,17 @@ impl RowLender for ConstructedTrees {
         count_attributes(&rows, node)
     }
 
-    fn find_named(&mut self, _: Global, _: usize, _: &str) {}
+    fn find_named(&mut self, _: Global, _: usize, _: &str) -> Result<Option<Vec<u32>>, Want> {
+        Ok(None)
+    }
 
     fn named(&self, _: usize, _: &str) -> Option<&[u32]> {
         None
     }
 
-    fn find_values(&mut self, _: Global, _: usize, _: &str) {}
+    fn find_values(&mut self, _: Global, _: usize, _: &str) -> Result<(), Want> {
+        Ok(())
+    }
 
     fn valued(&self, _: usize, _: &str, _: &str) -> Option<&[u32]> {
         None

@@ -32,7 +32,8 @@ pub trait TreeStore: RowLender {
         ensures lent { (Self.lent self.new ≡ Self.lent self.old) ⊎ (Self.lent self.new ≡ []) }
         ensures was_clean { Self.is_clean self.new → Self.is_clean self.old };
 
-    /// The same of an element with one text below it.
+    /// Adds an element with one text below it after the others, and says whether it did: only where
+    /// there is such a tree. Else, and where it is refused, they are as before.
     fn plant_around(&mut self, name: &str, value: &str) -> Result<bool, Want>
         ensures grown { IfOk result (λ did. did ≡ true → Self.forest self.new
             ≡ Self.forest self.old ++ around_text name.now value.now ∷ []) }

@@ -1,13 +1,15 @@
 //! Lenders of rows: what each of them promises, and a lender over any source.
-ghost use Rattle.std.specs.Prelude.{◌≡◌, ◌↔◌, ◌∷◌, [], ℕ, List, length, map, IfSome, OnErr, OnOk};
-ghost use Rattle.xq_trees.specs.Tree.{IsTree};
+ghost use Rattle.std.specs.Prelude.{◌≡◌, ◌+◌, ◌*◌, ◌≤◌, ◌↔◌, ◌∷◌, [], ℕ, List, length, map, IfOk, IfSome, OnErr, OnOk};
+ghost use Rattle.xq_trees.specs.Forest.{count};
+ghost use Rattle.xq_trees.specs.Tree.{IsTree, nodes};
 ghost use Rattle.xq_trees.specs.Rows.{Row, placed, placed_rows, row_at, rows};
 ghost use Rattle.xq_sources.specs.AttributeRows.{AreAttributeRows};
 ghost use Rattle.xq_packed.specs.Values.{valued as valued_lem};
 ghost use Rattle.xq_sources.specs.Names.{named as named_lem};
 ghost use Rattle.xq_sources.specs.Parents.{AreParents, IsParentRow};
 ghost use Rattle.xq_sources.specs.Sources.{tree_at, HasTree, HasNode, rows_between, after_row};
-ghost use Rattle.xq_sources.specs.Lenders.{IsRun, after_fetch};
+ghost use Rattle.xq_sources.specs.Lenders.{IsRun, after_fetch, after_search};
+ghost use Rattle.xq_sources.specs.Meters.{GivesNone};
 
 use crate::guides::no_parents;
 use crate::{LentRows, Meter, RowSource, TreeSource};
@@ -76,11 +78,25 @@ pub trait RowLender: TreeSource {
         ensures is_tree { Self.is_clean self.now → IfSome result (λ _.
             IsTree (tree_at (Self.forest self.now) tree)) };
 
-    /// Looks for the elements with the name, where the lender keeps all rows of the tree, so that
-    /// their places can be told. It gives no row, so nothing is counted, and is never refused:
-    /// where it finds nothing, nothing is told.
-    fn find_named(&mut self, alloc: Global, tree: usize, name: &str)
-        ensures counts { Self.meter self.new ≡ Self.meter self.old }
+    /// The places of the elements with the name, which it looks for where the lender keeps all rows
+    /// of the tree and doesn't tell these places yet. Most often it tells them from then on, also
+    /// that there are none.
+    ///
+    /// None says that no row was looked at. Else each row of the tree was, once, and counts as such:
+    /// also where the call is refused, by `Want::Memory` for a growth that was.
+    fn find_named(
+        &mut self,
+        alloc: Global,
+        tree: usize,
+        name: &str,
+    ) -> Result<Option<Vec<u32>>, Want>
+        ensures found { Self.is_clean self.new
+            → IfOk result (λ looked. IfSome looked (λ places. places.items
+            ≡ named_lem (placed_rows (tree_at (Self.forest self.old) tree)) name.now)) }
+        ensures counts { Self.is_clean self.new → Self.meter self.new
+            ≡ after_search (Self.meter self.old)
+            (count (nodes (tree_at (Self.forest self.old) tree))) result }
+        ensures gives { GivesNone (Self.meter self.old) (Self.meter self.new) }
         ensures keeps { Self.forest self.new ≡ Self.forest self.old }
         ensures was_clean { Self.is_clean self.new → Self.is_clean self.old };
 
@@ -90,11 +106,18 @@ pub trait RowLender: TreeSource {
         ensures { Self.is_clean self.now → IfSome result (λ places. places.now
             ≡ named_lem (placed_rows (tree_at (Self.forest self.now) tree)) name.now) };
 
-    /// Looks for the attributes with the name, where the lender keeps all rows of the tree, so that
-    /// the places of those with a value can be told. It gives no row, so nothing is counted, and is
-    /// never refused: where it finds nothing, nothing is told.
-    fn find_values(&mut self, alloc: Global, tree: usize, name: &str)
-        ensures counts { Self.meter self.new ≡ Self.meter self.old }
+    /// Looks for the attributes with the name, where the lender keeps all rows of the tree and
+    /// doesn't tell the places of those with a value yet. Most often it tells them from then on,
+    /// also that there are none.
+    ///
+    /// It looks at each row of the tree twice at most, once to count the attributes and once to take
+    /// their places, and counts both; also where it is refused, by `Want::Memory` for a growth that
+    /// was.
+    fn find_values(&mut self, alloc: Global, tree: usize, name: &str) -> Result<(), Want>
+        ensures counts { Self.is_clean self.new → (Self.meter self.new).looks
+            ≤ (Self.meter self.old).looks
+            + 2 * count (nodes (tree_at (Self.forest self.old) tree)) }
+        ensures gives { GivesNone (Self.meter self.old) (Self.meter self.new) }
         ensures keeps { Self.forest self.new ≡ Self.forest self.old }
         ensures was_clean { Self.is_clean self.new → Self.is_clean self.old };
 
@@ -188,13 +211,17 @@ impl<S: RowSource + Drop> RowLender for Buffered<S> {
         None
     }
 
-    fn find_named(&mut self, _: Global, _: usize, _: &str) {}
+    fn find_named(&mut self, _: Global, _: usize, _: &str) -> Result<Option<Vec<u32>>, Want> {
+        Ok(None)
+    }
 
     fn named(&self, _: usize, _: &str) -> Option<&[u32]> {
         None
     }
 
-    fn find_values(&mut self, _: Global, _: usize, _: &str) {}
+    fn find_values(&mut self, _: Global, _: usize, _: &str) -> Result<(), Want> {
+        Ok(())
+    }
 
     fn valued(&self, _: usize, _: &str, _: &str) -> Option<&[u32]> {
         None

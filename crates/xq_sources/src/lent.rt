@@ -104,7 +104,7 @@ impl<'a> LentRow<'a> {
         self.texts.value()
     }
 
-    /// The same row, to keep.
+    /// A copy of the row, to keep.
     pub fn to_row(&self, alloc: Global) -> Result<NodeRow, Want>
         ensures { IfOk result (λ row. placed row ≡ placed_lent self.now) }
     {
@@ -220,7 +220,8 @@ impl<'a> LentRows<'a> {
         LentRows::packed_after(rows, 0, low, high)
     }
 
-    /// The same of the packed rows from `base` on: all places are counted from there.
+    /// Packed rows from `base` on, from one place to before another, lent: all places are counted
+    /// from there.
     #[inline]
     pub fn packed_after(rows: &'a PackedRows, base: usize, low: usize, high: usize) -> LentRows<'a>
         requires { base ≤ length rows.now.rows }

@@ -1,5 +1,5 @@
 //! The elements of a tree by their names.
-ghost use Rattle.std.specs.Prelude.{◌≡◌, Some, if◌then◌else◌, option_map, IfErr, IfOk, IfSome, OnErr, OnOk};
+ghost use Rattle.std.specs.Prelude.{◌≡◌, ◌⊎◌, Some, true, if◌then◌else◌, option_map, IfErr, IfOk, IfSome, OnErr, OnOk};
 ghost use Rattle.std.specs.HashMap.{IsEmpty, IsUnchanged, get_by_text};
 ghost use Rattle.xq_atoms.specs.Text.{Text, text_eq};
 ghost use Rattle.xq_sources.specs.Lent.{placed_lent};
@@ -50,20 +50,37 @@ fn keep(alloc: Global, names: &mut NameIndex, name: &str, places: Vec<u32>) -> R
     Ok(())
 }
 
-/// Looks for the elements with the name among the rows, which are all of a tree's, and keeps their
-/// places where there are some: each later look finds them at once. Where memory is short, or many
-/// names are kept, no more is.
-pub fn find_named(alloc: Global, names: &mut NameIndex, rows: &LentRows<'_>, name: &str)
-    ensures { AreNames rows.now names.old → AreNames rows.now names.new }
+/// Keeps a copy of these places for the name, where there is memory for it.
+fn keep_copy(alloc: Global, names: &mut NameIndex, name: &str, places: &[u32])
+    ensures { (q : Text) → IfSome (get_by_text names.new q)
+        (λ kept. (get_by_text names.old q ≡ Some kept)
+        ⊎ ((text_eq q name.now ≡ true) × (kept.items ≡ places.now))) }
+{
+    let mut copy = Vec::new(alloc);
+    if copy.extend_from_slice(places).is_err() {
+        return;
+    }
+    let _ = keep(alloc, names, name, copy);
+}
+
+/// The places of the elements with the name, which it looks for among the rows, all of a tree's:
+/// each of them once. It keeps a copy of them, also where there are none, so that they are looked
+/// for once. None where places of the name are kept, or those of so many names that no more are: no
+/// row is looked at then.
+pub fn find_named(
+    alloc: Global,
+    names: &mut NameIndex,
+    rows: &LentRows<'_>,
+    name: &str,
+) -> Result<Option<Vec<u32>>, Want>
+    ensures kept { AreNames rows.now names.old → AreNames rows.now names.new }
+    ensures found { IfOk result (λ looked. IfSome looked (λ places.
+        places.items ≡ named_lem rows.now name.now)) }
 {
     if names.len() >= MOST_NAMES || names.contains_key(name) {
-        return;
+        return Ok(None);
     }
-    let Ok(places) = places_named(alloc, rows, name) else {
-        return;
-    };
-    if places.is_empty() {
-        return;
-    }
-    let _ = keep(alloc, names, name, places);
+    let places = places_named(alloc, rows, name)?;
+    keep_copy(alloc, names, name, &places);
+    Ok(Some(places))
 }

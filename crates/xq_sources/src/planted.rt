@@ -140,7 +140,8 @@ impl TreeArena {
         Ok(true)
     }
 
-    /// The same of an element with one text below it.
+    /// Adds an element with one text below it after the others, where there is such a tree, and says
+    /// whether it did. Where it is refused, they are as before.
     pub fn push_around(&mut self, name: &str, value: &str) -> Result<bool, Want>
         ensures grown { IfOk result (λ did. did ≡ true
             → self.new ≡ self.old ++ around_text name.now value.now ∷ []) }

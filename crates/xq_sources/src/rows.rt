@@ -9,7 +9,7 @@ use std::alloc::Global;
 use xq_atoms::Want;
 use xq_trees::NodeRow;
 
-/// The same rows, to keep.
+/// Copies of the rows, to keep.
 pub fn copy_rows(alloc: Global, rows: &LentRows<'_>) -> Result<Vec<NodeRow>, Want>
     ensures { IfOk result (λ copies. map placed copies.items ≡ rows.now) }
 {

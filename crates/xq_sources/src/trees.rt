@@ -69,7 +69,8 @@ impl<S: TreeSource + Drop> TreeSource for Trees<S> {
     fn meter(&self) -> Meter {
         let constructed = self.constructed.meter();
         let meter = self.source.meter().with_rows(constructed.rows() as usize);
-        meter.with_singles(constructed.singles() as usize)
+        let meter = meter.with_singles(constructed.singles() as usize);
+        meter.with_looks(constructed.looks() as usize)
     }
 }
 
@@ -154,9 +155,16 @@ impl<S: RowLender + Drop> RowLender for Trees<S> {
         }
     }
 
-    fn find_named(&mut self, alloc: Global, tree: usize, name: &str) {
+    fn find_named(
+        &mut self,
+        alloc: Global,
+        tree: usize,
+        name: &str,
+    ) -> Result<Option<Vec<u32>>, Want> {
         if tree < self.stored {
-            self.source.find_named(alloc, tree, name);
+            self.source.find_named(alloc, tree, name)
+        } else {
+            Ok(None)
         }
     }
 
@@ -168,9 +176,11 @@ impl<S: RowLender + Drop> RowLender for Trees<S> {
         }
     }
 
-    fn find_values(&mut self, alloc: Global, tree: usize, name: &str) {
+    fn find_values(&mut self, alloc: Global, tree: usize, name: &str) -> Result<(), Want> {
         if tree < self.stored {
-            self.source.find_values(alloc, tree, name);
+            self.source.find_values(alloc, tree, name)
+        } else {
+            Ok(())
         }
     }
 

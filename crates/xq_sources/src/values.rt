@@ -26,20 +26,23 @@ fn keep(alloc: Global, values: &mut Values, name: &str, places: ValuePlaces) -> 
 }
 
 /// Looks for the attributes with the name among the rows, which are all of a tree's, and keeps
-/// their places where there are some: each later look finds those with a value at once. Where
-/// memory is short, or many names are kept, no more is.
-pub fn find_values(alloc: Global, values: &mut Values, rows: &PackedRows, name: &str)
+/// their places, also where there are none: each later look finds those with a value at once. It
+/// gives whether it looked at rows: not where places of the name are kept, or those of so many names
+/// that no more are.
+pub fn find_values(
+    alloc: Global,
+    values: &mut Values,
+    rows: &PackedRows,
+    name: &str,
+) -> Result<bool, Want>
     ensures { AreValues rows.now.rows values.old → AreValues rows.now.rows values.new }
 {
     if values.len() >= MOST_NAMES || values.contains_key(name) {
-        return;
+        return Ok(false);
     }
     // A row has one place at most, so the rows bound the places.
-    let Ok(Some(places)) = ValuePlaces::find(alloc, rows, name, usize::MAX) else {
-        return;
-    };
-    if places.is_empty() {
-        return;
+    if let Some(places) = ValuePlaces::find(alloc, rows, name, usize::MAX)? {
+        keep(alloc, values, name, places)?;
     }
-    let _ = keep(alloc, values, name, places);
+    Ok(true)
 }

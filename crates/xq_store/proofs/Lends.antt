@@ -35,8 +35,8 @@ is_held_tree g b v view clean held tree in_it =
 
 -- more was found among what is kept
 pub found_more : {S : Type 0} (g : Ghosts S) (b : Beginning) (v : Viewed S) (fronts later : List CachedDocument) (may_stay : Bool) → IsShelved g b v fronts may_stay → ((trees : List Tree) → AreFronts trees fronts → AreFronts trees later)
-    → (lent : List (ℕ × Row)) → IsShelved g b (record { store = v.store; addresses = v.addresses; meter = v.meter; lent = lent }) later may_stay
-found_more g b v fronts later may_stay is more lent = record {
+    → (meter : Readings) (lent : List (ℕ × Row)) → IsShelved g b (record { store = v.store; addresses = v.addresses; meter = meter; lent = lent }) later may_stay
+found_more g b v fronts later may_stay is more meter lent = record {
   view = record { was_clean = is.view.was_clean; was_open = is.view.was_open; stands = is.view.stands; listed = is.view.listed };
   rows = λ clean held. more (trees_under b v.addresses) (is.rows clean held);
   stays = is.stays;

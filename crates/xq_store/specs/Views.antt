@@ -26,14 +26,14 @@ pub record Viewed (S : Type 0) : Type 0 where
 -- a code of all four parts, from one of the store
 abbrev pub viewed_code : {S : Type 0} → Coded S → Coded (Viewed S)
 viewed_code {S} store =
-    code_by (Held S × (List (List ℕ) × ((ℕ × ℕ) × List (ℕ × Row))))
+    code_by (Held S × (List (List ℕ) × ((ℕ × (ℕ × ℕ)) × List (ℕ × Row))))
     (coded× (held_code store) (coded× (coded_list (coded_list coded_ℕ))
-    (coded× (coded× coded_ℕ coded_ℕ) (coded_list (coded× coded_ℕ row_code)))))
-    (λ v. (v.store, (v.addresses, ((v.meter.rows, v.meter.singles), v.lent))))
+    (coded× (coded× coded_ℕ (coded× coded_ℕ coded_ℕ)) (coded_list (coded× coded_ℕ row_code)))))
+    (λ v. (v.store, (v.addresses, ((v.meter.rows, (v.meter.singles, v.meter.looks)), v.lent))))
     (λ p. record {
       store = p.0;
       addresses = p.1.0;
-      meter = record { rows = p.1.1.0.0; singles = p.1.1.0.1 };
+      meter = record { rows = p.1.1.0.0; singles = p.1.1.0.1.0; looks = p.1.1.0.1.1 };
       lent = p.1.1.1;
     })
     (λ _. refl)

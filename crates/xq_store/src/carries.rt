@@ -190,7 +190,7 @@ fn carry_inside<S: Alter>(
     Ok(())
 }
 
-/// The same in one transaction, all or nothing.
+/// Carries the documents into tables of this edition in one transaction, all or nothing.
 fn move_documents<S: Alter>(
     alloc: Global,
     conn: &mut Connection<S>,

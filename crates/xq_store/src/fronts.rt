@@ -1,9 +1,12 @@
 //! The rows that are kept of documents: lent, and read on where they are wanted.
-ghost use Rattle.std.specs.Prelude.{◌≡◌, IsTrue, List, Some, IfOk, IfSome, OnOk, filter};
+ghost use Rattle.std.specs.Prelude.{◌≡◌, ◌+◌, ◌*◌, ◌≤◌, IsTrue, List, Some, IfOk, IfSome, OnOk, filter};
 ghost use Rattle.std.specs.FinMap.{get};
 ghost use Rattle.std.specs.List.{enumerate_from};
 ghost use Rattle.xq_trees.specs.Rows.{placed_rows, rows};
-ghost use Rattle.xq_trees.specs.Tree.{Tree};
+ghost use Rattle.xq_trees.specs.Forest.{count};
+ghost use Rattle.xq_trees.specs.Tree.{Tree, nodes};
+ghost use Rattle.xq_sources.specs.Lenders.{after_search};
+ghost use Rattle.xq_sources.specs.Meters.{GivesNone};
 ghost use Rattle.xq_store.specs.Documents.{IsClean, IsOpen, Map, StandsFor};
 ghost use Rattle.xq_store.specs.declared.shelves.Cache.{Cache};
 ghost use Rattle.xq_store.specs.private.Keeps.{LeavesAlone};
@@ -20,7 +23,7 @@ use sqlite::Alter;
 use std::alloc::Global;
 use xq_atoms::Want;
 use xq_packed::PackedRows;
-use xq_sources::{LentRows, no_parents};
+use xq_sources::{LentRows, Meter, no_parents};
 
 /// How many rows are read at a time.
 const PART: u32 = 1_024;
@@ -74,8 +77,8 @@ fn read_rows<S: Alter>(
     Ok(())
 }
 
-/// The same of the rows that are kept of a document. Where memory is short the guide to its parents
-/// stays behind: the rows are read without it.
+/// Reads the rows that are kept of a document on in this way. Where memory is short the guide to its
+/// parents stays behind: the rows are read without it.
 fn read_front<S: Alter>(
     alloc: Global,
     store: &mut Store<S>,
@@ -137,20 +140,28 @@ pub(crate) fn parents_in(shelf: &Cache, tree: usize) -> &[u32]
     }
 }
 
-/// Looks for the elements of a tree with a name, where all its rows are kept.
+/// The places of the elements of a tree with a name, which it looks for where all rows of the tree
+/// are kept and the places aren't. The rows that it looks at count.
 pub(crate) fn find_in_front(
     alloc: Global,
     fronts: &mut Vec<CachedDocument>,
+    meter: &mut Meter,
     tree: usize,
     name: &str,
-)
-    ensures { (trees : List Tree) → AreFronts trees fronts.old.items
+) -> Result<Option<Vec<u32>>, Want>
+    ensures kept { (trees : List Tree) → AreFronts trees fronts.old.items
         → AreFronts trees fronts.new.items }
+    ensures found { (trees : List Tree) → AreFronts trees fronts.old.items
+        → IfOk result (λ looked. IfSome looked (λ places.
+        places.items ≡ named (placed_rows (tree_at trees tree)) name.now)) }
+    ensures counts { (trees : List Tree) → AreFronts trees fronts.old.items
+        → meter.new ≡ after_search meter.old (count (nodes (tree_at trees tree))) result }
+    ensures gives { GivesNone meter.old meter.new }
 {
     let Some(front) = fronts.get_mut(tree) else {
-        return;
+        return Ok(None);
     };
-    front.find_named(alloc, name);
+    front.find_named(alloc, meter, name)
 }
 
 /// The places of all elements of a tree with a name, where they were found.
@@ -164,20 +175,25 @@ pub(crate) fn named_in<'a>(shelf: &'a Cache, tree: usize, name: &str) -> Option<
     Some(places)
 }
 
-/// Looks for the attributes of a tree with a name, where all its rows are kept.
+/// Looks for the attributes of a tree with a name, where all its rows are kept and the places of
+/// such attributes aren't. Each row that it looks at counts, twice.
 pub(crate) fn find_values_in(
     alloc: Global,
     fronts: &mut Vec<CachedDocument>,
+    meter: &mut Meter,
     tree: usize,
     name: &str,
-)
-    ensures { (trees : List Tree) → AreFronts trees fronts.old.items
+) -> Result<(), Want>
+    ensures kept { (trees : List Tree) → AreFronts trees fronts.old.items
         → AreFronts trees fronts.new.items }
+    ensures counts { (trees : List Tree) → AreFronts trees fronts.old.items
+        → meter.new.looks ≤ meter.old.looks + 2 * count (nodes (tree_at trees tree)) }
+    ensures gives { GivesNone meter.old meter.new }
 {
     let Some(front) = fronts.get_mut(tree) else {
-        return;
+        return Ok(());
     };
-    front.find_values(alloc, name);
+    front.find_values(alloc, meter, name)
 }
 
 /// The places of all attributes of a tree with a name and a value, where those with the name were

@@ -50,16 +50,21 @@ impl<S: Alter, O: Origin> RowLender for View<S, O> {
         count_attributes(&cached_rows(&self.shelf.fronts, tree), node)
     }
 
-    fn find_named(&mut self, alloc: Global, tree: usize, name: &str) {
-        find_in_front(alloc, &mut self.shelf.fronts, tree, name);
+    fn find_named(
+        &mut self,
+        alloc: Global,
+        tree: usize,
+        name: &str,
+    ) -> Result<Option<Vec<u32>>, Want> {
+        find_in_front(alloc, &mut self.shelf.fronts, &mut self.meter, tree, name)
     }
 
     fn named(&self, tree: usize, name: &str) -> Option<&[u32]> {
         named_in(&self.shelf, tree, name)
     }
 
-    fn find_values(&mut self, alloc: Global, tree: usize, name: &str) {
-        find_values_in(alloc, &mut self.shelf.fronts, tree, name);
+    fn find_values(&mut self, alloc: Global, tree: usize, name: &str) -> Result<(), Want> {
+        find_values_in(alloc, &mut self.shelf.fronts, &mut self.meter, tree, name)
     }
 
     fn valued(&self, tree: usize, name: &str, value: &str) -> Option<&[u32]> {

@@ -1,9 +1,13 @@
 //! What a store keeps in memory of its documents: their addresses, and of each the first rows.
-ghost use Rattle.std.specs.Prelude.{◌≡◌, ◌<◌, [], List, Some, IfOk, IfSome, IsTrue, length, map, slice_get};
+ghost use Rattle.std.specs.Prelude.{◌≡◌, ◌+◌, ◌*◌, ◌<◌, ◌≤◌, [], List, Some, IfOk, IfSome, IsTrue, length, map, slice_get};
 ghost use Rattle.std.specs.List.{enumerate_from, insert, remove, slice_set as set};
 ghost use Rattle.xq_sources.specs.Addresses.{IsGap};
 ghost use Rattle.xq_trees.specs.Rows.{placed_rows};
-ghost use Rattle.xq_trees.specs.Tree.{Tree};
+ghost use Rattle.xq_trees.specs.Forest.{count};
+ghost use Rattle.xq_trees.specs.Tree.{Tree, nodes};
+ghost use Rattle.xq_sources.specs.Lenders.{after_search as after_search_lem};
+ghost use Rattle.xq_sources.specs.Meters.{GivesNone};
+ghost use Rattle.xq_sources.specs.Names.{named};
 ghost use Rattle.xq_store.specs.private.Shelves.{AreFronts, AreKeptOf, HasDropped, HasPut, IsFront, IsFrontOf, front_at, kept_rows};
 
 use std::alloc::Global;
@@ -11,7 +15,7 @@ use std::collections::HashMap;
 use std::rc::Rc;
 use xq_atoms::Want;
 use xq_packed::{PackedRows, PackedTree};
-use xq_sources::{Addresses, Guide, LentRows, NameIndex, Values, find_named, find_values};
+use xq_sources::{Addresses, Guide, LentRows, Meter, NameIndex, Values, find_named, find_values};
 
 /// What is kept of a document: its first rows, and what was found among them.
 #[derive(Drop)]
@@ -88,25 +92,69 @@ impl CachedDocument {
         all_of(&self.rows)
     }
 
-    /// Looks for the elements with the name, where these are all rows of the document, so that
-    /// their places can be told.
-    pub fn find_named(&mut self, alloc: Global, name: &str)
-        ensures { (t : Tree) → IsFrontOf t self.old → IsFrontOf t self.new }
+    /// The places of the elements with the name, which it looks for where these are all rows of the
+    /// document and the places aren't kept. The rows that it looks at count.
+    pub fn find_named(
+        &mut self,
+        alloc: Global,
+        meter: &mut Meter,
+        name: &str,
+    ) -> Result<Option<Vec<u32>>, Want>
+        ensures kept { (t : Tree) → IsFrontOf t self.old → IsFrontOf t self.new }
+        ensures found { (t : Tree) → IsFrontOf t self.old
+            → IfOk result (λ looked. IfSome looked (λ places.
+            places.items ≡ named (placed_rows t) name.now)) }
+        ensures counts { (t : Tree) → IsFrontOf t self.old
+            → meter.new ≡ after_search_lem meter.old (count (nodes t)) result }
+        ensures gives { GivesNone meter.old meter.new }
     {
         let rows = all_of(&self.rows);
-        if are_whole(&rows) {
-            find_named(alloc, &mut self.names, &rows, name);
+        if !are_whole(&rows) {
+            return Ok(None);
         }
+        let looked = find_named(alloc, &mut self.names, &rows, name);
+        *meter = after_search(*meter, rows.len(), &looked);
+        looked
     }
 
-    /// The same of the attributes with the name.
-    pub fn find_values(&mut self, alloc: Global, name: &str)
-        ensures { (t : Tree) → IsFrontOf t self.old → IsFrontOf t self.new }
+    /// Looks for the attributes with the name, where these are all rows of the document and the
+    /// places of such attributes aren't kept. Each row that it looks at counts, twice.
+    pub fn find_values(&mut self, alloc: Global, meter: &mut Meter, name: &str) -> Result<(), Want>
+        ensures kept { (t : Tree) → IsFrontOf t self.old → IsFrontOf t self.new }
+        ensures counts { (t : Tree) → IsFrontOf t self.old
+            → meter.new.looks ≤ meter.old.looks + 2 * count (nodes t) }
+        ensures gives { GivesNone meter.old meter.new }
     {
-        if !are_whole(&all_of(&self.rows)) {
-            return;
+        let rows = all_of(&self.rows);
+        if !are_whole(&rows) {
+            return Ok(());
         }
-        find_values(alloc, &mut self.values, &self.rows, name);
+        let count = rows.len();
+        let looked = find_values(alloc, &mut self.values, &self.rows, name);
+        *meter = meter.with_looks(twice_each(count, &looked));
+        let _is_looked = looked?;
+        Ok(())
+    }
+}
+
+/// The meter after a search for a name among so many rows.
+fn after_search(meter: Meter, rows: usize, looked: &Result<Option<Vec<u32>>, Want>) -> Meter
+    ensures { result ≡ after_search_lem meter rows looked.now }
+{
+    match looked {
+        Ok(None) => meter,
+        Ok(Some(_)) => meter.with_looks(rows),
+        Err(_) => meter.with_looks(rows),
+    }
+}
+
+/// At how many rows a search for values looked, of so many rows: twice at each, or at none.
+fn twice_each(rows: usize, looked: &Result<bool, Want>) -> usize
+    ensures { result ≤ 2 * rows }
+{
+    match looked {
+        Ok(false) => 0,
+        _ => rows.saturating_mul(2),
     }
 }
 

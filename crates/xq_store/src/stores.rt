@@ -77,6 +77,7 @@ pub enum Put {
 }
 
 impl Put {
+    /// Whether a document was replaced, as what a store gives.
     fn of(replaced: bool) -> Put
         ensures { result ≡ (if replaced then Put.Replaced else Put.Stored) }
     {
@@ -309,8 +310,8 @@ impl<S: Alter> Store<S> {
         Ok(Put::of(replaced))
     }
 
-    /// The same of a document that is handed over: its rows are kept for the next view, which need
-    /// not read them. After a refusal the document is gone.
+    /// Puts a document that is handed over, as [`put`](Store::put) does: its rows are kept for the
+    /// next view, which need not read them. After a refusal the document is gone.
     pub fn put_owned(&mut self, address: &str, document: PackedTree) -> Result<Put, Want>
         requires address { IsAddress address.now }
         requires document { document.root.kind ≡ Document }

@@ -124,8 +124,8 @@ impl<S: Alter, O: Origin> View<S, O> {
         self.shelf.addresses.as_slice()
     }
 
-    /// The same list, which is there as long as it is held. While it is, no document can be put or
-    /// dropped without the list being read anew.
+    /// The list of addresses, which is there as long as it is held. While it is, no document can
+    /// be put or dropped without the list being read anew.
     pub fn shared_addresses(&self) -> Result<Rc<Addresses>, Want>
         ensures { IfOk result (λ all. all.value ≡ self.now.addresses) }
     {

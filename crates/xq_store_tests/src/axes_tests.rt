@@ -89,7 +89,8 @@ fn wrong_scan<S: Alter + Drop>(
     Ok(None)
 }
 
-/// The same of steps over a document. ConstructedTrees tell parents from the first look at a row on.
+/// The first wrong step over a document, if one is. Constructed trees tell parents from the first
+/// look at a row on.
 fn wrong_scan_of<S: Alter + Drop>(
     alloc: Global,
     store: Store<S>,
@@ -103,6 +104,7 @@ fn wrong_scan_of<S: Alter + Drop>(
     wrong_scan(alloc, store, &mut fragments, scans)
 }
 
+/// The steps of each list over stored and constructed trees.
 #[test]
 fn steps(rt: HostRuntime) -> Result<(), Want> {
     for (number, steps) in STEPS.iter().enumerate() {

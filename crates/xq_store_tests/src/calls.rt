@@ -51,6 +51,7 @@ pub fn is_answered<S: Alter>(
     }
 }
 
+/// Whether the store's addresses are those that are wanted.
 fn lists<S: Alter>(store: &mut Store<S>, wanted: &[&str]) -> Result<bool, Want> {
     let addresses = store.addresses()?;
     for (address, want) in addresses.iter().zip(wanted) {
@@ -61,6 +62,7 @@ fn lists<S: Alter>(store: &mut Store<S>, wanted: &[&str]) -> Result<bool, Want> 
     Ok(addresses.len() == wanted.len())
 }
 
+/// Puts the document, which is made first.
 fn put_made<S: Alter>(
     alloc: Global,
     store: &mut Store<S>,
@@ -70,6 +72,7 @@ fn put_made<S: Alter>(
     put(store, address, &document.made(alloc)?)
 }
 
+/// Whether the document under the address is the one that is wanted, or there is none.
 fn loads<S: Alter>(
     store: &mut Store<S>,
     address: &str,
@@ -82,6 +85,7 @@ fn loads<S: Alter>(
     })
 }
 
+/// Whether the drop says as it should whether there was a document.
 fn drops<S: Alter>(store: &mut Store<S>, address: &str, wanted: bool) -> Result<bool, Want> {
     Ok(store.drop_doc(address)? == wanted)
 }

@@ -88,7 +88,8 @@ fn fewest_of_log(alloc: Global) -> u64 {
     MOST
 }
 
-/// The same of the database, where the log answers so many.
+/// The fewest calls of the database with which the rows are stored and read once, where the log
+/// answers so many; or `MOST`.
 fn fewest_of_db(alloc: Global, log: u64) -> u64 {
     for db in 0..MOST {
         if is_read(alloc, log, db) {

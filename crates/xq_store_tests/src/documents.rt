@@ -83,6 +83,7 @@ fn rooted(rows: Vec<NodeRow>) -> Result<RowTree, Want> {
     judged(rows)
 }
 
+/// A document of so many rows, whose children are comments with the text.
 fn comments(alloc: Global, rows: u32, text: &str) -> Result<RowTree, Want> {
     let mut nodes = Vec::new(alloc);
     nodes.push(row(alloc, (0, 0, 0), Kind::Document, "", "")?)?;
@@ -102,6 +103,7 @@ fn long_text(alloc: Global) -> Result<String, Want> {
     Ok(text)
 }
 
+/// A document of so many rows, whose children are comments of a mebibyte.
 fn long_comments(alloc: Global, rows: u32) -> Result<RowTree, Want> {
     let text = long_text(alloc)?;
     comments(alloc, rows, text.as_str())

@@ -2,7 +2,7 @@
 
 use std::alloc::Global;
 use xq_atoms::Want;
-use xq_sources::RowLender;
+use xq_sources::{Meter, RowLender};
 
 /// What is done with a document, or told of the elements with a name or the attributes with a
 /// value.
@@ -14,6 +14,8 @@ pub enum Look {
     Read,
     /// The elements with the name are looked for.
     Find(&'static str),
+    /// They are looked for at so many rows.
+    Count(&'static str, u64),
     /// Their places are these, or are not told.
     Told(&'static str, Option<&'static [u32]>),
     /// The attributes with the name are looked for.
@@ -41,6 +43,18 @@ fn are_these(told: Option<&[u32]>, wanted: Option<&'static [u32]>) -> bool {
     }
 }
 
+/// Has the lender look for the elements with the name, and tells at how many rows it looked.
+fn count_looks<L: RowLender>(
+    alloc: Global,
+    lender: &mut L,
+    tree: usize,
+    name: &str,
+) -> Result<u64, Want> {
+    let before = lender.meter().looks();
+    let _ = lender.find_named(alloc, tree, name)?;
+    Ok(lender.meter().looks().saturating_sub(before))
+}
+
 /// Does this, and tells whether what is told is what it says.
 fn is_seen<L: RowLender>(
     alloc: Global,
@@ -51,9 +65,14 @@ fn is_seen<L: RowLender>(
     match look {
         Look::Begin => fetch(alloc, lender, tree, (0, u32::MAX))?,
         Look::Read => fetch(alloc, lender, tree, (u32::MAX, u32::MAX))?,
-        Look::Find(name) => lender.find_named(alloc, tree, name),
+        Look::Find(name) => {
+            let _ = lender.find_named(alloc, tree, name)?;
+        }
+        Look::Count(name, looks) => {
+            return Ok(count_looks(alloc, lender, tree, name)? == looks);
+        }
         Look::Told(name, places) => return Ok(are_these(lender.named(tree, name), places)),
-        Look::FindValues(name) => lender.find_values(alloc, tree, name),
+        Look::FindValues(name) => lender.find_values(alloc, tree, name)?,
         Look::Valued(name, value, places) => {
             return Ok(are_these(lender.valued(tree, name, value), places));
         }
@@ -61,7 +80,12 @@ fn is_seen<L: RowLender>(
     Ok(true)
 }
 
-/// Whether each of these is told as it says, and but for the first rows nothing is counted.
+/// Whether the meters show the same rows, however many were looked at.
+fn gave_none(before: Meter, after: Meter) -> bool {
+    after.rows() == before.rows() && after.singles() == before.singles()
+}
+
+/// Whether each of these is told as it says, and but for the first rows none is counted as given.
 pub fn are_seen<L: RowLender>(
     alloc: Global,
     lender: &mut L,
@@ -72,7 +96,7 @@ pub fn are_seen<L: RowLender>(
         if !is_seen(alloc, lender, *tree, *look)? {
             return Ok(false);
         }
-        if !matches!(look, Look::Begin) && lender.meter() != before {
+        if !matches!(look, Look::Begin) && !gave_none(before, lender.meter()) {
             return Ok(false);
         }
     }

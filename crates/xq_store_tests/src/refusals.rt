@@ -53,6 +53,8 @@ fn fate_of_call<S: Alter>(alloc: Global, store: &mut Store<S>, call: Call, befor
     }
 }
 
+/// The fate of a call that was refused: up where the documents are as before, and it
+/// succeeds when it is made again.
 fn fate_after_refusal<S: Alter>(
     alloc: Global,
     store: &mut Store<S>,

@@ -30,21 +30,21 @@ const NOTHING: &[Call] = &[Call::List(&[])];
 /// A document that no call after it names.
 const OTHER: &[Call] = &[Call::List(&["a/1"]), Call::Load("a/1", Some(LIBRARY))];
 
-/// The same, and the library under `b`.
+/// That document, and the library under `b`.
 const LIBRARY_TOO: &[Call] = &[
     Call::List(&["a/1", "b"]),
     Call::Load("a/1", Some(LIBRARY)),
     Call::Load("b", Some(LIBRARY)),
 ];
 
-/// The same, and an empty document under `b`.
+/// That document, and an empty one under `b`.
 const EMPTY_TOO: &[Call] = &[
     Call::List(&["a/1", "b"]),
     Call::Load("a/1", Some(LIBRARY)),
     Call::Load("b", Some(EMPTY)),
 ];
 
-/// The same, and under `b` the library with a text changed and a row more.
+/// That document, and under `b` the library with a text changed and a row more.
 const LONGER_TOO: &[Call] = &[
     Call::List(&["a/1", "b"]),
     Call::Load("a/1", Some(LIBRARY)),
@@ -135,21 +135,25 @@ fn check_stops(rt: &(impl Abort + AllocGlobal), stop: Stop, log_pages: usize) ->
     Ok(())
 }
 
+/// The log of the file stops at each of its calls.
 #[test]
 fn of_the_log(rt: HostRuntime) -> Result<(), Fail> {
     check_stops(&rt, Stop::OfLog, 128)
 }
 
+/// The database's file stops at each of its calls.
 #[test]
 fn of_the_database(rt: HostRuntime) -> Result<(), Fail> {
     check_stops(&rt, Stop::OfDatabase, 128)
 }
 
+/// The log stops at each of its calls, where it is copied into the database at each commit.
 #[test]
 fn of_a_short_log(rt: HostRuntime) -> Result<(), Fail> {
     check_stops(&rt, Stop::OfLog, 1)
 }
 
+/// The database's file stops at each of its calls, where the log is copied at each commit.
 #[test]
 fn of_the_database_under_a_short_log(rt: HostRuntime) -> Result<(), Fail> {
     check_stops(&rt, Stop::OfDatabase, 1)

@@ -32,8 +32,8 @@ const BOTH: [Step; 2] = [
     ),
 ];
 
-/// The places of a name are told once it was looked for among all rows, where there are some: also
-/// in later views, and until another document is put.
+/// The places of a name are told once it was looked for among all rows, also where there are none:
+/// in later views too, and until another document is put. Each row is looked at once for a name.
 const NAMES: [Step; 4] = [
     (
         &[Call::Put("b", LIBRARY, Put::Stored)],
@@ -42,14 +42,16 @@ const NAMES: [Step; 4] = [
             (0, Look::Told("book", None)),
             (0, Look::Read),
             (0, Look::Told("book", None)),
-            (0, Look::Find("book")),
+            (0, Look::Count("book", 8)),
             (0, Look::Told("book", Some(&[2, 5]))),
+            (0, Look::Count("book", 0)),
             (0, Look::Told("lib", None)),
             (0, Look::Find("id")),
-            (0, Look::Told("id", None)),
-            (0, Look::Find("shelf")),
-            (0, Look::Told("shelf", None)),
-            (1, Look::Find("book")),
+            (0, Look::Told("id", Some(&[]))),
+            (0, Look::Count("shelf", 8)),
+            (0, Look::Told("shelf", Some(&[]))),
+            (0, Look::Count("shelf", 0)),
+            (1, Look::Count("book", 0)),
             (1, Look::Told("book", None)),
         ]),
     ),
@@ -61,7 +63,7 @@ const NAMES: [Step; 4] = [
             (1, Look::Told("lib", Some(&[1]))),
             (0, Look::Read),
             (0, Look::Find("book")),
-            (0, Look::Told("book", None)),
+            (0, Look::Told("book", Some(&[]))),
         ]),
     ),
     (
@@ -79,8 +81,8 @@ const NAMES: [Step; 4] = [
     (&[], Task::Names(&[(1, Look::Told("lib", Some(&[2, 3])))])),
 ];
 
-/// The places of a value are told once its name was looked for among all rows, where there are
-/// some: also in later views, and until another document is put.
+/// The places of a value are told once its name was looked for among all rows, also where there are
+/// none: in later views too, and until another document is put.
 const VALUES: [Step; 4] = [
     (
         &[Call::Put("b", LIBRARY, Put::Stored)],
@@ -95,9 +97,9 @@ const VALUES: [Step; 4] = [
             (0, Look::Valued("id", "3", Some(&[]))),
             (0, Look::Valued("id", "", Some(&[]))),
             (0, Look::FindValues("book")),
-            (0, Look::Valued("book", "", None)),
+            (0, Look::Valued("book", "", Some(&[]))),
             (0, Look::FindValues("shelf")),
-            (0, Look::Valued("shelf", "1", None)),
+            (0, Look::Valued("shelf", "1", Some(&[]))),
             (1, Look::FindValues("id")),
             (1, Look::Valued("id", "1", None)),
         ]),
@@ -108,7 +110,7 @@ const VALUES: [Step; 4] = [
             (1, Look::Valued("id", "2", Some(&[6]))),
             (0, Look::Read),
             (0, Look::FindValues("id")),
-            (0, Look::Valued("id", "2", None)),
+            (0, Look::Valued("id", "2", Some(&[]))),
         ]),
     ),
     (
@@ -171,6 +173,7 @@ const ROOM: [Step; 3] = [
 /// The steps, each list for a new store.
 const LISTS: [&[Step]; 4] = [&BOTH, &NAMES, &VALUES, &PART];
 
+/// The steps of each list over views of a new store.
 #[test]
 fn views(rt: HostRuntime) -> Result<(), Want> {
     for (number, steps) in LISTS.iter().enumerate() {
@@ -183,6 +186,7 @@ fn views(rt: HostRuntime) -> Result<(), Want> {
     Ok(())
 }
 
+/// Long values are read where there is room for them.
 #[test]
 fn room_for_long_values(rt: HostRuntime) -> Result<(), Want> {
     none_is_wrong(

@@ -100,7 +100,7 @@ fn viewed<S: Alter + Drop, O: Origin + Drop>(
     Ok((view.into_store(), if is_right { counts } else { None }))
 }
 
-/// The same over any view.
+/// Does the task over a view of the store with a brand of its own, and gives the store back.
 pub fn seen<S: Alter + Drop>(alloc: Global, store: Store<S>, task: Task) -> Result<Done<S>, Want> {
     viewed::<S, Brand>(alloc, store, task)
 }

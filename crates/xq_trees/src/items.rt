@@ -21,7 +21,7 @@ pub enum Item {
 }
 
 impl Item {
-    /// The same item again.
+    /// A copy of the item.
     pub fn try_clone(&self, alloc: Global) -> Result<Item, Want>
         ensures item { IfOk result (λ copy. item_view copy ≡ item_view self.now) }
         ensures want { IfErr result (λ want. want ≡ Want.Memory) }

@@ -28,7 +28,7 @@ pub fn size_below<R: TreeRows>(rows: &R, at: usize) -> usize
     next - at - 1
 }
 
-/// The same in a list.
+/// How many rows of the list stand below the one at the place.
 fn size_at(rows: &[NodeRow], at: usize) -> usize
     requires at_in { at < length rows.now }
     requires after { IsSized (drop (at + 1) rows.now) }

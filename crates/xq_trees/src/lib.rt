@@ -76,7 +76,7 @@ pub struct NodeRow {
 }
 
 impl NodeRow {
-    /// The same row again.
+    /// A copy of the row.
     pub fn try_clone(&self, alloc: Global) -> Result<NodeRow, Want>
         ensures row { IfOk result (λ copy. placed copy ≡ placed self.now) }
         ensures want { IfErr result (λ want. want ≡ Want.Memory) }

@@ -227,6 +227,7 @@ fn wrong_look<T: TreeStore + RowSource>(
 /// Lists of what is done and found, each for trees of their own.
 const LISTS: [&[Look]; 3] = [&GIVEN, &UPROOTED, &BUILT];
 
+/// Each list of looks: a source gives stored and constructed trees alike.
 #[test]
 fn sources_give_both_kinds(rt: HostRuntime) -> Result<(), Want> {
     for looks in &LISTS {
@@ -262,14 +263,15 @@ fn lends_both<T: TreeStore>(alloc: Global, trees: &mut T) -> Result<bool, Want> 
 
 /// Trees over a source without places tell none, of the source's trees or of those that are
 /// constructed.
-fn tells_none<T: TreeStore>(alloc: Global, trees: &mut T) -> bool {
+fn tells_none<T: TreeStore>(alloc: Global, trees: &mut T) -> Result<bool, Want> {
     for tree in 0..3 {
-        trees.find_values(alloc, tree, "id");
-        if trees.valued(tree, "id", "x").is_some() {
-            return false;
+        trees.find_values(alloc, tree, "id")?;
+        let is_looked = trees.find_named(alloc, tree, "id")?.is_some();
+        if is_looked || trees.valued(tree, "id", "x").is_some() {
+            return Ok(false);
         }
     }
-    true
+    Ok(trees.meter().looks() == 0)
 }
 
 /// Trees over a buffer lend both kinds, and tell no places of values.
@@ -278,6 +280,6 @@ fn lenders_lend_both_kinds(rt: HostRuntime) -> Result<(), Want> {
     let source = Buffered::new(rt.alloc(), stored(rt.alloc())?);
     let mut trees = Trees::new(rt.alloc(), source);
     holds(&rt, lends_both(rt.alloc(), &mut trees)?, 0);
-    holds(&rt, tells_none(rt.alloc(), &mut trees), 1);
+    holds(&rt, tells_none(rt.alloc(), &mut trees)?, 1);
     Ok(())
 }

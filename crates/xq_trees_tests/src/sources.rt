@@ -81,6 +81,7 @@ fn tells_parents(alloc: Global, tree: RowTree, count: u32) -> Result<bool, Want>
 /// How many rows the register has.
 const REGISTER_ROWS: u32 = 222;
 
+/// Constructed trees tell the parent of each node, once a row was looked at.
 #[test]
 fn parents_are_told(rt: HostRuntime) -> Result<(), Want> {
     let register = register(rt.alloc())?;
@@ -100,6 +101,7 @@ fn stays_the_same(alloc: Global) -> Result<bool, Want> {
     Ok(are_rows(&LentRows::new(tree.rows()), &LIBRARY))
 }
 
+/// A tree that is packed and unpacked, or made of its levels, stays the same.
 #[test]
 fn trees_are_converted(rt: HostRuntime) -> Result<(), Want> {
     holds(&rt, stays_the_same(rt.alloc())?, 0);

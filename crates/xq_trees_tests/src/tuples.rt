@@ -169,6 +169,7 @@ fn is_made(
     Ok(hold(rt, &stream, (numbers, counts))? && count_of(rt, &stream) == NUMBERS.len())
 }
 
+/// Each row: the stream after a clause is as it should be.
 #[test]
 fn streams(rt: HostRuntime) -> Result<(), Fault> {
     for (place, row) in ROWS.iter().enumerate() {

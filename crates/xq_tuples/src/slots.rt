@@ -77,7 +77,7 @@ fn is_one_light(items: &[Item]) -> bool
     }
 }
 
-/// The same atom.
+/// A copy of the atom, whose text is shared.
 fn same_atom(atom: &Atom) -> Result<Atom, AllocError>
     ensures { IfOk result (λ copy. atomic_of copy ≡ atomic_of atom.now) }
 {
@@ -90,7 +90,7 @@ fn same_atom(atom: &Atom) -> Result<Atom, AllocError>
     })
 }
 
-/// The same item.
+/// A copy of the item, whose text is shared.
 fn same_item(item: &Item) -> Result<Item, AllocError>
     ensures { IfOk result (λ copy. item_view copy ≡ item_view item.now) }
 {

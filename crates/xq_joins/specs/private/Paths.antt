@@ -13,6 +13,7 @@ use Rattle.xq_meaning.specs.Readings.{node_at}
 use Rattle.xq_operators.specs.declared.contexts.EvalContext.{EvalContext}
 use Rattle.xq_operators.specs.Views.{frame_at, FrameIn}
 use Rattle.xq_joins.specs.declared.paths.DocumentPath.{DocumentPath}
+use Rattle.xq_joins.specs.Paths.{steps_of}
 
 -- the node is the root of the tree of the document at the address
 pub record IsDocument (addresses : List Text) (address : Text) (n : Spot) : Type 0 where
@@ -23,6 +24,7 @@ pub record IsDocument (addresses : List Text) (address : Text) (n : Spot) : Type
 -- in the frame, over any trees that have its nodes, the plan gives what the steps lead to from the
 -- document
 pub record IsDocumentPath (frame : EvalContext) (path : DocumentPath) (p : Plan) : Type 0 where
+  pub steps : steps_of p ≡ length path.steps.now
   pub there : (trees : List Tree) → FrameIn trees frame
       → HasNode trees path.document.tree path.document.pre
   pub gives : (trees : List Tree) → FrameIn trees frame

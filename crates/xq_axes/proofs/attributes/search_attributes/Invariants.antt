@@ -16,6 +16,7 @@ invariant-loop-node g l =
       forest : g.L.TreeSource.forest l.source ≡ g.L.TreeSource.forest l.initial.source;
       clean : g.L.TreeSource.is_clean l.source → g.L.TreeSource.is_clean l.initial.source;
       singles : (g.L.TreeSource.meter l.source).singles ≡ (g.L.TreeSource.meter l.initial.source).singles;
+      looks : (g.L.TreeSource.meter l.source).looks ≡ (g.L.TreeSource.meter l.initial.source).looks;
       within : g.L.TreeSource.is_clean l.source → l.next ≤ count (nodes t);
       rows : g.L.TreeSource.is_clean l.source → (g.L.TreeSource.meter l.source).rows ≤ (g.L.TreeSource.meter l.initial.source).rows + length (below_where (in_some axis.Attributes t l.places) l.next);
       so_far :

@@ -20,6 +20,7 @@ loop-high-init g c =
       forest = refl;
       clean = λ k. k;
       singles = refl;
+      looks = refl;
       direction = new.direction;
       places = new.places;
       rows = λ k. (let e = ap bound c.last_of-high.ensures in omega (arith, e));
@@ -64,6 +65,7 @@ loop-high-preserved g c =
       forest = c.in_ok-look_between.ensures.keeps ∙ inv.forest;
       clean = λ k. inv.clean (c.in_ok-look_between.ensures.was_clean k);
       singles = c.in_ok-look_between.ensures.singles ∙ inv.singles;
+      looks = c.in_ok-look_between.ensures.looks ∙ inv.looks;
       direction = direction;
       places = places;
       rows = λ k. (

@@ -16,6 +16,7 @@ invariant-loop-high g l =
       forest : g.L.TreeSource.forest l.source ≡ trees;
       clean : g.L.TreeSource.is_clean l.source → g.L.TreeSource.is_clean l.initial.source;
       singles : (g.L.TreeSource.meter l.source).singles ≡ (g.L.TreeSource.meter l.initial.source).singles;
+      looks : (g.L.TreeSource.meter l.source).looks ≡ (g.L.TreeSource.meter l.initial.source).looks;
       direction : l.look.direction ≡ l.fn.direction;
       places : l.look.contexts.places.now ≡ l.places;
       rows :

@@ -32,6 +32,7 @@ loop-place-preserved g c =
           let e = subst (λ w. (c.in_ok-next.next ≡ end_of w place + 1) × (end_of w place < count (nodes w))) same (c.in_ok-next.ensures.ends k) in
           omega (arith, e.0, e.1));
       singles = (let s = inv.singles in let n = c.in_ok-next.ensures.singles in omega (arith, s, n));
+      looks = c.in_ok-next.ensures.looks ∙ inv.looks;
       searched = λ k up. (
           let which = g.D.Direction.which in
           let s = inv.searched (c.in_ok-next.ensures.was_clean k) up in
@@ -87,6 +88,7 @@ loop-place-preserved-then-from-next g c =
       rows = inv.rows;
       within = inv.within;
       singles = (let s = inv.singles in omega (arith, s));
+      looks = inv.looks;
       searched = λ k up. (
           let s = inv.searched k up in
           record {

@@ -18,6 +18,7 @@ invariant-loop-place g l =
       rows : g.L.TreeSource.is_clean l.source → (g.L.TreeSource.meter l.source).rows ≤ (g.L.TreeSource.meter l.initial.source).rows + length (below_where (in_some (axis_of (g.D.Direction.which l.fn.direction)) t l.places) l.next);
       within : g.L.TreeSource.is_clean l.source → l.next ≤ count (nodes t);
       singles : (g.L.TreeSource.meter l.source).singles ≤ (g.L.TreeSource.meter l.initial.source).singles + l.place-index;
+      looks : (g.L.TreeSource.meter l.source).looks ≡ (g.L.TreeSource.meter l.initial.source).looks;
       searched :
           g.L.TreeSource.is_clean l.source → IsRising l.places
           → record {

@@ -34,6 +34,7 @@ loop-low-init g c =
       forest = refl;
       clean = λ k. k;
       singles = refl;
+      looks = refl;
       first = (let f = first_from vs 0 c.min-last.result (omega (arith, none)) in omega (arith, f, e));
       rows = λ k. omega arith;
       looked = λ k there up. (
@@ -101,6 +102,7 @@ loop-low-preserved g c =
       forest = c.in_ok-walk.ensures.keeps ∙ inv.forest;
       clean = λ k. inv.clean (c.in_ok-walk.ensures.was_clean k);
       singles = c.in_ok-walk.ensures.singles ∙ inv.singles;
+      looks = c.in_ok-walk.ensures.looks ∙ inv.looks;
       first = (let f = inv.first in omega (arith, f, more, to, test, from));
       rows = λ k. (
           let was = c.in_ok-walk.ensures.was_clean k in

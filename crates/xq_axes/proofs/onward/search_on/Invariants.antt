@@ -15,6 +15,7 @@ invariant-loop-low g l =
       forest : g.L.TreeSource.forest l.source ≡ trees;
       clean : g.L.TreeSource.is_clean l.source → g.L.TreeSource.is_clean l.initial.source;
       singles : (g.L.TreeSource.meter l.source).singles ≡ (g.L.TreeSource.meter l.initial.source).singles;
+      looks : (g.L.TreeSource.meter l.source).looks ≡ (g.L.TreeSource.meter l.initial.source).looks;
       first : get_or l.places 0 0 ≤ l.low;
       rows :
           g.L.TreeSource.is_clean l.source

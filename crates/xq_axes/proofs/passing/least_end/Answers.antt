@@ -13,6 +13,7 @@ loop-place-preserved-then-from-least g c =
       clean = inv.clean;
       rows = inv.rows;
       singles = (let s = inv.singles in omega (arith, s));
+      looks = inv.looks;
       so_far = λ k. least_over t c.args.places.now c.loop-place.place-index c.loop-place.least (omega arith) (omega arith) (let f = c.type_inv.places c.loop-place.place-index in omega (arith, f)) (inv.so_far k);
     }
 
@@ -28,6 +29,7 @@ loop-place-preserved g c =
       clean = λ k. inv.clean (c.in_ok-end_of_node.ensures.was_clean k);
       rows = c.in_ok-end_of_node.ensures.rows ∙ inv.rows;
       singles = (let s = inv.singles in let n = c.in_ok-end_of_node.ensures.singles in omega (arith, s, n));
+      looks = c.in_ok-end_of_node.ensures.looks ∙ inv.looks;
       so_far = λ k. (
           let e = subst (λ f. IsEnd (tree_at f c.args.tree) (get_or vs i 0) last) inv.forest (c.in_ok-end_of_node.ensures.end k) in
           least_more t vs i c.loop-place.least last c.min-least.result (omega arith) e c.in_ok-end_of_node.ensures.small c.min-least.ensures (inv.so_far (c.in_ok-end_of_node.ensures.was_clean k)));

@@ -21,6 +21,7 @@ loop-place-preserved g c =
       clean = λ k. inv.clean (c.in_ok-fetch_row.ensures.was_clean k);
       rows = ap (λ (r : Readings). r.rows) c.in_ok-fetch_row.ensures.counts ∙ inv.rows;
       singles = (let s = inv.singles in let n = one_single _ _ c.in_ok-fetch_row.ensures.counts in omega (arith, s, n));
+      looks = ap (λ (m : Readings). m.looks) c.in_ok-fetch_row.ensures.counts ∙ inv.looks;
       so_far = λ k up. (
           let there = subst (λ f. HasNode f c.args.tree v) inv.forest (c.in_ok-fetch_row.ensures.exists k) in
           let x = c.in-Some.row in

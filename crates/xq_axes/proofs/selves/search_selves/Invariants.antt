@@ -11,5 +11,6 @@ invariant-loop-place g l = record {
   clean : g.L.TreeSource.is_clean l.source → g.L.TreeSource.is_clean l.initial.source;
   rows : (g.L.TreeSource.meter l.source).rows ≡ (g.L.TreeSource.meter l.initial.source).rows;
   singles : (g.L.TreeSource.meter l.source).singles ≤ (g.L.TreeSource.meter l.initial.source).singles + l.place-index;
+  looks : (g.L.TreeSource.meter l.source).looks ≡ (g.L.TreeSource.meter l.initial.source).looks;
   so_far : g.L.TreeSource.is_clean l.source → IsRising l.places → IsSoFar l.test (tree_at (g.L.TreeSource.forest l.initial.source) l.tree) l.places l.place-index l.found.items;
 }

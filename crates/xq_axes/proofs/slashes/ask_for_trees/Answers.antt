@@ -26,6 +26,7 @@ loop-node-preserved-then-eq g c =
       clean = inv.clean;
       rows = inv.rows;
       singles = (let s = inv.singles in omega (arith, s));
+      looks = inv.looks;
       so_far = λ k i d l. elim (cases_lt i index) [
         | inl m ↦ inv.so_far k i d m
         | inr m ↦ (
@@ -51,6 +52,7 @@ loop-node-preserved g c =
       clean = λ k. inv.clean (was k);
       rows = ap (λ (m : Readings). m.rows) counts ∙ inv.rows;
       singles = (let s = inv.singles in let n = ap (λ (m : Readings). m.singles) counts in omega (arith, s, n));
+      looks = ap (λ (m : Readings). m.looks) counts ∙ inv.looks;
       so_far = λ k i d l. elim (cases_lt i index) [
         | inl m ↦ inv.so_far (was k) i d m
         | inr m ↦ (

@@ -13,6 +13,7 @@ invariant-loop-node g l =
       clean : g.L.TreeSource.is_clean l.source → g.L.TreeSource.is_clean l.initial.source;
       rows : (g.L.TreeSource.meter l.source).rows ≡ (g.L.TreeSource.meter l.initial.source).rows;
       singles : (g.L.TreeSource.meter l.source).singles ≤ (g.L.TreeSource.meter l.initial.source).singles + l.node-index;
+      looks : (g.L.TreeSource.meter l.source).looks ≡ (g.L.TreeSource.meter l.initial.source).looks;
       so_far : g.L.TreeSource.is_clean l.source → (i : ℕ) (d : Node) → i < l.node-index → IsTree (tree_at trees (get_or l.nodes i d).tree);
       asked : g.L.TreeSource.is_clean l.source → (n : ℕ) → l.asked ≡ Some n → IsTree (tree_at trees n);
     }

@@ -6,7 +6,8 @@ use Rattle.xq_trees.specs.Tree.{nodes}
 use Rattle.xq_sources.specs.Sources.{tree_at}
 use Rattle.xq_axes.specs.private.Hits.{is_wanted, below_where, IsRising}
 use Rattle.xq_axes.specs.Many.{spot, is_found_from, AreThere}
-use Rattle.xq_axes.specs.Scans.{region}
+use Rattle.xq_axes.specs.Scans.{region, rows_from}
+use Rattle.xq_sources.specs.Meters.{SeesAtMost}
 use Rattle.xq_axes.proofs.Many.{added}
 use Rattle.xq_axes.proofs.Sizes.{OnOk-then}
 use Rattle.xq_axes.proofs.steps.add_step.Goals as goal
@@ -45,3 +46,15 @@ returns-in_err-places-clause-rows g c = λ k up. (
 
 pub returns-in_err-places-clause-singles : goal.returns-in_err-places-clause-singles
 returns-in_err-places-clause-singles g c = subst (λ ws. (g.L.TreeSource.meter c.search.new.source).singles ≤ (g.L.TreeSource.meter c.args.source.now).singles + length ws) c.deref.ensures.value (c.in_err-places.ensures.singles)
+
+pub returns-clause-sees : goal.returns-clause-sees
+returns-clause-sees g c = λ k up. (
+    let t = tree_at (g.L.TreeSource.forest c.args.source.now) c.args.contexts.now.tree in
+    let v = c.deref.ensures.value in
+    subst (λ ws. SeesAtMost (g.L.TreeSource.meter c.args.source.now) (g.L.TreeSource.meter c.search.new.source) (rows_from t ws)) v (c.in_ok-places.ensures.sees k (subst (λ ws. IsRising ws) (sym v) up)))
+
+pub returns-in_err-places-clause-sees : goal.returns-in_err-places-clause-sees
+returns-in_err-places-clause-sees g c = λ k up. (
+    let t = tree_at (g.L.TreeSource.forest c.args.source.now) c.args.contexts.now.tree in
+    let v = c.deref.ensures.value in
+    subst (λ ws. SeesAtMost (g.L.TreeSource.meter c.args.source.now) (g.L.TreeSource.meter c.search.new.source) (rows_from t ws)) v (c.in_err-places.ensures.sees k (subst (λ ws. IsRising ws) (sym v) up)))

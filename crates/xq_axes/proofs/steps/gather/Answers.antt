@@ -2,6 +2,7 @@ use Rattle.std.proofs.Common.{[], ◌∷◌, ◌++◌, refl, ap, ◌∙◌}
 use Rattle.xq_axes.proofs.Many.{gathered_more, gathered_empty}
 use Rattle.xq_sources.specs.Sources.{tree_at}
 use Rattle.xq_axes.proofs.Scans.{kept_more, kept_first, none_kept, none_read, none_rises}
+use Rattle.xq_axes.proofs.Seen.{none_seen}
 use Rattle.xq_axes.proofs.steps.gather.Goals as goal
 
 pub returns-then-context-gathered-clause-gathered : goal.returns-then-context-gathered-clause-gathered
@@ -50,3 +51,24 @@ returns-in_err-push-2-clause-rows g c = λ k contexts index one all at are. (
     let t = tree_at (g.L.TreeSource.forest c.args.source.now) was.tree in
     let empty = none_kept contexts index was.tree was.places.items are one c.args.context all at c.if-context-gathered.false in
     none_read c.args.axis t was.places.items _ _ empty (c.in_ok-add_step.ensures.rows k (none_rises was.places.items empty)))
+
+pub returns-clause-sees : goal.returns-clause-sees
+returns-clause-sees g c = λ k contexts index one all at are. (
+    let was = c.args.gathered.now in
+    let t = tree_at (g.L.TreeSource.forest c.args.source.now) was.tree in
+    let empty = none_kept contexts index was.tree was.places.items are one c.args.context all at c.if-context-gathered.false in
+    none_seen t was.places.items (g.L.TreeSource.meter c.args.source.now) (g.L.TreeSource.meter c.add_step.new.source) empty (c.in_ok-add_step.ensures.sees k (none_rises was.places.items empty)))
+
+pub returns-in_err-add_step-clause-sees : goal.returns-in_err-add_step-clause-sees
+returns-in_err-add_step-clause-sees g c = λ k contexts index one all at are. (
+    let was = c.args.gathered.now in
+    let t = tree_at (g.L.TreeSource.forest c.args.source.now) was.tree in
+    let empty = none_kept contexts index was.tree was.places.items are one c.args.context all at c.if-context-gathered.false in
+    none_seen t was.places.items (g.L.TreeSource.meter c.args.source.now) (g.L.TreeSource.meter c.add_step.new.source) empty (c.in_err-add_step.ensures.sees k (none_rises was.places.items empty)))
+
+pub returns-in_err-push-2-clause-sees : goal.returns-in_err-push-2-clause-sees
+returns-in_err-push-2-clause-sees g c = λ k contexts index one all at are. (
+    let was = c.args.gathered.now in
+    let t = tree_at (g.L.TreeSource.forest c.args.source.now) was.tree in
+    let empty = none_kept contexts index was.tree was.places.items are one c.args.context all at c.if-context-gathered.false in
+    none_seen t was.places.items (g.L.TreeSource.meter c.args.source.now) (g.L.TreeSource.meter c.add_step.new.source) empty (c.in_ok-add_step.ensures.sees k (none_rises was.places.items empty)))

@@ -20,3 +20,9 @@ returns-clause-rows g c = λ k. c.in_ok-places.ensures.rows k (one_rises c.args.
 
 pub returns-in_err-places-clause-rows : goal.returns-in_err-places-clause-rows
 returns-in_err-places-clause-rows g c = λ k. c.in_err-places.ensures.rows k (one_rises c.args.node.pre)
+
+pub returns-clause-sees : goal.returns-clause-sees
+returns-clause-sees g c = λ k. c.in_ok-places.ensures.sees k (one_rises c.args.node.pre)
+
+pub returns-in_err-places-clause-sees : goal.returns-in_err-places-clause-sees
+returns-in_err-places-clause-sees g c = λ k. c.in_err-places.ensures.sees k (one_rises c.args.node.pre)

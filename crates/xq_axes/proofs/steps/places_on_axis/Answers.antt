@@ -22,3 +22,6 @@ returns-clause-nodes g c = λ k there.
 
 pub returns-clause-rows : goal.returns-clause-rows
 returns-clause-rows g c = λ k. c.search.ensures.rows k (one_rises c.args.node.pre)
+
+pub returns-clause-sees : goal.returns-clause-sees
+returns-clause-sees g c = λ k. c.search.ensures.sees k (one_rises c.args.node.pre)

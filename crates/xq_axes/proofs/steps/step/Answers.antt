@@ -38,3 +38,14 @@ returns-clause-rows g c = λ k tree all. (
     let same : AreSame c.deref.result.now ns = subst (λ xs. AreSame xs ns) (sym c.deref.ensures.value) (subst (λ xs. (n : Node) → Contains c.merge.result.items n ↔ Contains xs n) copied c.merge.ensures.members) in
     let rising = subst (λ xs. AreRising xs) (sym c.deref.ensures.value) c.merge.ensures.rising in
     c.step_from-2.ensures.rows k rising ns same tree all)
+
+pub returns-then-rises-clause-sees : goal.returns-then-rises-clause-sees
+returns-then-rises-clause-sees g c = λ k tree all. c.step_from.ensures.sees k (rising_seen c.args.nodes.now c.rises.result c.rises.ensures c.if-rises.true) c.args.nodes.now (λ n. (λ m. m, λ m. m)) tree all
+
+pub returns-clause-sees : goal.returns-clause-sees
+returns-clause-sees g c = λ k tree all. (
+    let ns = c.args.nodes.now in
+    let copied = c.in_ok-extend_from_slice.ensures.items ∙ ap (λ xs. xs ++ ns) c.in_ok-contexts.ensures.items in
+    let same : AreSame c.deref.result.now ns = subst (λ xs. AreSame xs ns) (sym c.deref.ensures.value) (subst (λ xs. (n : Node) → Contains c.merge.result.items n ↔ Contains xs n) copied c.merge.ensures.members) in
+    let rising = subst (λ xs. AreRising xs) (sym c.deref.ensures.value) c.merge.ensures.rising in
+    c.step_from-2.ensures.sees k rising ns same tree all)

@@ -4,11 +4,13 @@ use Rattle.xq_trees.specs.declared.items.Node.{Node}
 use Rattle.xq_axes.specs.Many.{spot, is_found_from, AreThere, IsNext, IsGathered, IsAt}
 use Rattle.xq_axes.proofs.Many.{gathered_none, default_at, step_found, step_there, step_nodes, have_same}
 use Rattle.xq_sources.specs.Sources.{tree_at}
-use Rattle.xq_axes.specs.Scans.{region}
+use Rattle.xq_sources.specs.Meters.{SeesAtMost}
+use Rattle.xq_axes.specs.Scans.{region, rows_from}
 use Rattle.xq_axes.proofs.Scans.{kept_rises, kept_region, still_one}
 use Rattle.xq_trees.specs.Rising.{AreRising}
 use Rattle.xq_axes.proofs.Merging.{merged}
 use Rattle.xq_trees.proofs.Rising.{rising_none}
+use Rattle.xq_axes.proofs.Seen.{kept_seen}
 use Rattle.xq_axes.proofs.steps.step_from.Goals as goal
 
 pub loop-context-init : goal.loop-context-init
@@ -21,6 +23,7 @@ loop-context-init g c =
       forest = refl;
       clean = λ k. k;
       rows = λ k one all. omega arith;
+      sees = λ k one all. omega arith;
       rising = subst (λ ns. AreRising ns) (sym c.new-found.ensures.items) rising_none;
       kept = λ one all. ap (map (spot 0)) c.in_ok-with_capacity.ensures.items;
       singles = (let n = ap length c.in_ok-with_capacity.ensures.items in omega (arith, n));
@@ -45,6 +48,10 @@ loop-context-preserved g c =
       rows = λ k one all. (
           let before = inv.rows (c.in_ok-gather.ensures.was_clean k) one all in
           let more = c.in_ok-gather.ensures.rows k items index one all at (inv.kept one all) in
+          omega (arith, before, more));
+      sees = λ k one all. (
+          let before = inv.sees (c.in_ok-gather.ensures.was_clean k) one all in
+          let more = c.in_ok-gather.ensures.sees k items index one all at (inv.kept one all) in
           omega (arith, before, more));
       rising = c.in_ok-gather.ensures.rising inv.rising;
       kept = λ one all. c.in_ok-gather.ensures.kept items index one all at (inv.kept one all);
@@ -154,3 +161,45 @@ returns-in_err-gather-clause-singles g c = (
     let before = c.loop-context.invariant.singles in
     let more = c.in_err-gather.ensures.singles in
     omega (arith, before, more))
+
+pub returns-clause-sees : goal.returns-clause-sees
+returns-clause-sees g c = λ k up ns same one all. (
+    let inv = c.loop-context.invariant in
+    let trees = g.L.TreeSource.forest c.args.source.now in
+    let items = c.args.contexts.now in
+    let old = c.loop-context.gathered in
+    let index = c.loop-context.context-index in
+    let ones = still_one one ns items all (λ n. (same n).0) in
+    let are = inv.kept one ones in
+    let rising = kept_rises items index old.tree old.places.items are up in
+    let before = inv.sees (c.in_ok-add_step.ensures.was_clean k) one ones in
+    let read = subst (λ f. SeesAtMost (g.L.TreeSource.meter c.loop-context.source) (g.L.TreeSource.meter c.add_step.new.source) (rows_from (tree_at f old.tree) old.places.items)) inv.forest (c.in_ok-add_step.ensures.sees k rising) in
+    let most = kept_seen items index old.tree old.places.items are trees one ns all same in
+    omega (arith, before, read, most))
+
+pub returns-in_err-add_step-clause-sees : goal.returns-in_err-add_step-clause-sees
+returns-in_err-add_step-clause-sees g c = λ k up ns same one all. (
+    let inv = c.loop-context.invariant in
+    let trees = g.L.TreeSource.forest c.args.source.now in
+    let items = c.args.contexts.now in
+    let old = c.loop-context.gathered in
+    let index = c.loop-context.context-index in
+    let ones = still_one one ns items all (λ n. (same n).0) in
+    let are = inv.kept one ones in
+    let rising = kept_rises items index old.tree old.places.items are up in
+    let before = inv.sees (c.in_err-add_step.ensures.was_clean k) one ones in
+    let read = subst (λ f. SeesAtMost (g.L.TreeSource.meter c.loop-context.source) (g.L.TreeSource.meter c.add_step.new.source) (rows_from (tree_at f old.tree) old.places.items)) inv.forest (c.in_err-add_step.ensures.sees k rising) in
+    let most = kept_seen items index old.tree old.places.items are trees one ns all same in
+    omega (arith, before, read, most))
+
+pub returns-in_err-gather-clause-sees : goal.returns-in_err-gather-clause-sees
+returns-in_err-gather-clause-sees g c = λ k up ns same one all. (
+    let inv = c.loop-context.invariant in
+    let items = c.args.contexts.now in
+    let index = c.loop-context.context-index in
+    let x : Node = get_or items index (record { tree = 0; pre = 0 }) in
+    let at : IsAt items index x = record { within = omega arith; is = default_at items index (record { tree = 0; pre = 0 }) x (omega arith) } in
+    let ones = still_one one ns items all (λ n. (same n).0) in
+    let before = inv.sees (c.in_err-gather.ensures.was_clean k) one ones in
+    let read = c.in_err-gather.ensures.sees k items index one ones at (inv.kept one ones) in
+    omega (arith, before, read))

@@ -22,3 +22,6 @@ returns-clause-reached g c = λ k have up.
 
 pub returns-clause-rows : goal.returns-clause-rows
 returns-clause-rows g c = λ k up. c.search.ensures.rows k (places_rise c.args.tree c.args.places.now up)
+
+pub returns-clause-sees : goal.returns-clause-sees
+returns-clause-sees g c = λ k up. c.search.ensures.sees k (places_rise c.args.tree c.args.places.now up)

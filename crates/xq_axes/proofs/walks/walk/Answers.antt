@@ -51,6 +51,7 @@ loop-next-preserved g c =
           let b = run_counted t s next (next + passed) _ _ _ run (found k) inv.from (omega arith) (omega (arith, l, n)) (inv.rows (c.in_ok-fetch.ensures.was_clean k)) r in
           omega (arith, b, c.ranges.high.fits));
       singles = ap (λ (m : Readings). m.singles) c.in_ok-fetch.ensures.counts ∙ inv.singles;
+      looks = ap (λ (m : Readings). m.looks) c.in_ok-fetch.ensures.counts ∙ inv.looks;
     }
 
 pub returns-then-is_empty-clause-read : goal.returns-then-is_empty-clause-read

@@ -17,6 +17,7 @@ invariant-loop-next g l =
           → (l.next ≤ span_end t s) × g.V.Visitor.has_read start l.visitor t s l.next;
       rows : g.L.TreeSource.is_clean l.source → (g.L.TreeSource.meter l.source).rows ≤ (g.L.TreeSource.meter l.initial.source).rows + (min l.next (span_end t s) - l.low);
       singles : (g.L.TreeSource.meter l.source).singles ≡ (g.L.TreeSource.meter l.initial.source).singles;
+      looks : (g.L.TreeSource.meter l.source).looks ≡ (g.L.TreeSource.meter l.initial.source).looks;
     }
 
 abbrev pub decreases-loop-next : goal.decreases-loop-next

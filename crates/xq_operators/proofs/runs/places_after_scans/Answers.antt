@@ -2,7 +2,8 @@ use Rattle.std.proofs.Common.{◌≡◌, ◌+◌, ◌*◌, ◌≤◌, length, ma
 use Rattle.xq_axes.specs.DoubleSlash.{AreAfterDoubleSlash}
 use Rattle.xq_axes.specs.Many.{spot, AreReached}
 use Rattle.xq_axes.specs.Nodes.{HaveAll}
-use Rattle.xq_axes.specs.Scans.{region}
+use Rattle.xq_axes.specs.Scans.{region, rows_from}
+use Rattle.xq_sources.specs.Meters.{SeesAtMost}
 use Rattle.xq_trees.specs.declared.Axis.TheVariants.{Child, Descendant}
 use Rattle.xq_trees.specs.Rising.{AreRising}
 use Rattle.xq_sources.specs.Sources.{tree_at}
@@ -44,7 +45,7 @@ returns-in_err-found-clause-reads_most g c = λ k has.
     let rising = subst (λ ps. AreRising (map (spot n.tree) ps)) (sym slice) before.rising in
     let rows = subst (λ f. after.rows ≤ now.rows + length (region Descendant (tree_at f n.tree) c.as_slice.result.now)) inv.forest (c.in_err-found.ensures.rows k rising) in
     let same = inv.but_one c.if-is_below.true in
-    let grown = two_steps_read trees n steps t places before start now after (inv.reads was has) (subst (λ ps. after.rows ≤ now.rows + length (region Descendant (tree_at trees n.tree) ps)) slice rows) (subst (λ ps. after.singles ≤ now.singles + 2 * length ps) slice c.in_err-found.ensures.singles) in
+    let grown = two_steps_read trees n steps t places before start now after (inv.reads was has) (subst (λ ps. after.rows ≤ now.rows + length (region Descendant (tree_at trees n.tree) ps)) slice rows) (subst (λ ps. after.singles ≤ now.singles + 2 * length ps) slice c.in_err-found.ensures.singles) (subst (λ ps. SeesAtMost now after (rows_from (tree_at trees n.tree) ps)) slice (subst (λ f. SeesAtMost now after (rows_from (tree_at f n.tree) c.as_slice.result.now)) inv.forest (c.in_err-found.ensures.sees k rising))) in
     reads_within start after (t + 2) (length steps) (rows_of trees n.tree) (omega (arith, same)) grown
 
 pub returns-in_err-found-2-clause-reads_most : goal.returns-in_err-found-2-clause-reads_most
@@ -65,7 +66,7 @@ returns-in_err-found-2-clause-reads_most g c = λ k has.
     let rising = subst (λ ps. AreRising (map (spot n.tree) ps)) (sym slice) before.rising in
     let rows = subst (λ f. after.rows ≤ now.rows + length (region c.in-Some.axis (tree_at f n.tree) c.as_slice-in-loop-step.result.now)) inv.forest (c.in_err-found-2.ensures.rows k rising) in
     let same = inv.all c.if-is_below.false in
-    let grown = step_reads trees n steps t places before c.in-Some.axis start now after (inv.reads was has) (subst (λ ps. after.rows ≤ now.rows + length (region c.in-Some.axis (tree_at trees n.tree) ps)) slice rows) (subst (λ ps. after.singles ≤ now.singles + length ps) slice c.in_err-found-2.ensures.singles) in
+    let grown = step_reads trees n steps t places before c.in-Some.axis start now after (inv.reads was has) (subst (λ ps. after.rows ≤ now.rows + length (region c.in-Some.axis (tree_at trees n.tree) ps)) slice rows) (subst (λ ps. after.singles ≤ now.singles + length ps) slice c.in_err-found-2.ensures.singles) (subst (λ ps. SeesAtMost now after (rows_from (tree_at trees n.tree) ps)) slice (subst (λ f. SeesAtMost now after (rows_from (tree_at f n.tree) c.as_slice-in-loop-step.result.now)) inv.forest (c.in_err-found-2.ensures.sees k rising))) in
     reads_within start after (t + 1) (length steps) (rows_of trees n.tree) (omega (arith, same)) grown
 
 pub loop-step-preserved-then-is_below : goal.loop-step-preserved-then-is_below
@@ -102,7 +103,7 @@ loop-step-preserved-then-is_below g c =
           let before = inv.reached (was k) has in
           let rising = subst (λ ps. AreRising (map (spot n.tree) ps)) (sym slice) before.rising in
           let rows = subst (λ f. after.rows ≤ now.rows + length (region Descendant (tree_at f n.tree) c.as_slice.result.now)) inv.forest (c.in_ok-found.ensures.rows k rising) in
-          two_steps_read trees n steps t places before start now after (inv.reads (was k) has) (subst (λ ps. after.rows ≤ now.rows + length (region Descendant (tree_at trees n.tree) ps)) slice rows) (subst (λ ps. after.singles ≤ now.singles + 2 * length ps) slice c.in_ok-found.ensures.singles));
+          two_steps_read trees n steps t places before start now after (inv.reads (was k) has) (subst (λ ps. after.rows ≤ now.rows + length (region Descendant (tree_at trees n.tree) ps)) slice rows) (subst (λ ps. after.singles ≤ now.singles + 2 * length ps) slice c.in_ok-found.ensures.singles) (subst (λ ps. SeesAtMost now after (rows_from (tree_at trees n.tree) ps)) slice (subst (λ f. SeesAtMost now after (rows_from (tree_at f n.tree) c.as_slice.result.now)) inv.forest (c.in_ok-found.ensures.sees k rising))));
     }
 
 pub loop-step-preserved : goal.loop-step-preserved
@@ -141,5 +142,5 @@ loop-step-preserved g c =
           let before = inv.reached (was k) has in
           let rising = subst (λ ps. AreRising (map (spot n.tree) ps)) (sym slice) before.rising in
           let rows = subst (λ f. after.rows ≤ now.rows + length (region axis (tree_at f n.tree) c.as_slice-in-loop-step.result.now)) inv.forest (c.in_ok-found-2.ensures.rows k rising) in
-          step_reads trees n steps t places before axis start now after (inv.reads (was k) has) (subst (λ ps. after.rows ≤ now.rows + length (region axis (tree_at trees n.tree) ps)) slice rows) (subst (λ ps. after.singles ≤ now.singles + length ps) slice c.in_ok-found-2.ensures.singles));
+          step_reads trees n steps t places before axis start now after (inv.reads (was k) has) (subst (λ ps. after.rows ≤ now.rows + length (region axis (tree_at trees n.tree) ps)) slice rows) (subst (λ ps. after.singles ≤ now.singles + length ps) slice c.in_ok-found-2.ensures.singles) (subst (λ ps. SeesAtMost now after (rows_from (tree_at trees n.tree) ps)) slice (subst (λ f. SeesAtMost now after (rows_from (tree_at f n.tree) c.as_slice-in-loop-step.result.now)) inv.forest (c.in_ok-found-2.ensures.sees k rising))));
     }

@@ -44,21 +44,21 @@ returns-in_err-nodes-clause-reads g c = λ k tree h.
     let old = g.W.TreeSource.forest c.args.world.now in
     let views = map item_view c.args.items.now in
     let contexts = c.deref.ensures.value ∙ c.in_ok-contexts.ensures in
-    double_slash_grown old tree views c.deref.result.now contexts h (g.W.TreeSource.meter c.args.world.now) (g.W.TreeSource.meter c.double_slash.new.source) (c.double_slash.ensures.rows k tree (contexts_of old tree views c.deref.result.now contexts h)) c.double_slash.ensures.singles
+    double_slash_grown old tree views c.deref.result.now contexts h (g.W.TreeSource.meter c.args.world.now) (g.W.TreeSource.meter c.double_slash.new.source) (c.double_slash.ensures.rows k tree (contexts_of old tree views c.deref.result.now contexts h)) c.double_slash.ensures.singles (c.double_slash.ensures.sees k tree (contexts_of old tree views c.deref.result.now contexts h))
 
 pub returns-in_err-as_items-clause-reads : goal.returns-in_err-as_items-clause-reads
 returns-in_err-as_items-clause-reads g c = λ k tree h.
     let old = g.W.TreeSource.forest c.args.world.now in
     let views = map item_view c.args.items.now in
     let contexts = c.deref.ensures.value ∙ c.in_ok-contexts.ensures in
-    double_slash_grown old tree views c.deref.result.now contexts h (g.W.TreeSource.meter c.args.world.now) (g.W.TreeSource.meter c.double_slash.new.source) (c.double_slash.ensures.rows k tree (contexts_of old tree views c.deref.result.now contexts h)) c.double_slash.ensures.singles
+    double_slash_grown old tree views c.deref.result.now contexts h (g.W.TreeSource.meter c.args.world.now) (g.W.TreeSource.meter c.double_slash.new.source) (c.double_slash.ensures.rows k tree (contexts_of old tree views c.deref.result.now contexts h)) c.double_slash.ensures.singles (c.double_slash.ensures.sees k tree (contexts_of old tree views c.deref.result.now contexts h))
 
 pub returns-clause-reads : goal.returns-clause-reads
 returns-clause-reads g c = λ k tree h.
     let old = g.W.TreeSource.forest c.args.world.now in
     let views = map item_view c.args.items.now in
     let contexts = c.deref.ensures.value ∙ c.in_ok-contexts.ensures in
-    double_slash_grown old tree views c.deref.result.now contexts h (g.W.TreeSource.meter c.args.world.now) (g.W.TreeSource.meter c.double_slash.new.source) (c.double_slash.ensures.rows k tree (contexts_of old tree views c.deref.result.now contexts h)) c.double_slash.ensures.singles
+    double_slash_grown old tree views c.deref.result.now contexts h (g.W.TreeSource.meter c.args.world.now) (g.W.TreeSource.meter c.double_slash.new.source) (c.double_slash.ensures.rows k tree (contexts_of old tree views c.deref.result.now contexts h)) c.double_slash.ensures.singles (c.double_slash.ensures.sees k tree (contexts_of old tree views c.deref.result.now contexts h))
 
 pub returns-clause-of_tree : goal.returns-clause-of_tree
 returns-clause-of_tree g c = λ k tree h.

@@ -29,13 +29,13 @@ pub returns-clause-reads : goal.returns-clause-reads
 returns-clause-reads g c = λ k has.
     let old = g.W.TreeSource.forest c.args.world.now in
     let n = c.args.node in
-    double_slash_grown old n.tree (Place n ∷ []) (n ∷ []) refl (one_of_tree old n has) (g.W.TreeSource.meter c.args.world.now) (g.W.TreeSource.meter c.double_slash_in_tree.new.source) (c.in_ok-places.ensures.rows k (one_rises n)) c.in_ok-places.ensures.singles
+    double_slash_grown old n.tree (Place n ∷ []) (n ∷ []) refl (one_of_tree old n has) (g.W.TreeSource.meter c.args.world.now) (g.W.TreeSource.meter c.double_slash_in_tree.new.source) (c.in_ok-places.ensures.rows k (one_rises n)) c.in_ok-places.ensures.singles (c.in_ok-places.ensures.sees k (one_rises n))
 
 pub returns-in_err-places-clause-reads : goal.returns-in_err-places-clause-reads
 returns-in_err-places-clause-reads g c = λ k has.
     let old = g.W.TreeSource.forest c.args.world.now in
     let n = c.args.node in
-    double_slash_grown old n.tree (Place n ∷ []) (n ∷ []) refl (one_of_tree old n has) (g.W.TreeSource.meter c.args.world.now) (g.W.TreeSource.meter c.double_slash_in_tree.new.source) (c.in_err-places.ensures.rows k (one_rises n)) c.in_err-places.ensures.singles
+    double_slash_grown old n.tree (Place n ∷ []) (n ∷ []) refl (one_of_tree old n has) (g.W.TreeSource.meter c.args.world.now) (g.W.TreeSource.meter c.double_slash_in_tree.new.source) (c.in_err-places.ensures.rows k (one_rises n)) c.in_err-places.ensures.singles (c.in_err-places.ensures.sees k (one_rises n))
 
 pub returns-clause-of_tree : goal.returns-clause-of_tree
 returns-clause-of_tree g c = λ k has.

@@ -4,6 +4,7 @@ use Rattle.xq_atoms.specs.declared.refusals.Fault.TheVariants.{Code as OfCode}
 use Rattle.xq_atoms.specs.declared.refusals.Code.TheVariants.{XPTY0019}
 use Rattle.xq_axes.specs.Nodes.{HaveAll}
 use Rattle.xq_axes.specs.Scans.{region}
+use Rattle.xq_sources.specs.Meters.{SeesAtMost}
 use Rattle.xq_sources.specs.Sources.{tree_at}
 use Rattle.xq_meaning.specs.Arguments.{all_nodes}
 use Rattle.xq_trees.specs.Items.{Place, item_view, item_views}
@@ -13,7 +14,7 @@ use Rattle.xq_meaning.specs.Steps.{axis_nodes}
 use Rattle.xq_meaning.specs.Forms as Forms
 use Rattle.xq_operators.specs.Views.{forget, GivesSequence}
 use Rattle.xq_operators.specs.Nodes.{nodes_among}
-use Rattle.xq_operators.specs.Reads.{AreOf}
+use Rattle.xq_operators.specs.Reads.{rows_of, AreOf}
 use Rattle.xq_operators.proofs.NodeLemmas.{among_in, scan_gives, scan_stops}
 use Rattle.xq_operators.proofs.OneTree.{not_grown, contexts_of, contexts_have, step_grown, step_found}
 use Rattle.xq_operators.proofs.steps.scan.Goals as goal
@@ -49,21 +50,21 @@ returns-in_err-nodes-clause-reads g c = λ k tree h.
     let old = g.W.TreeSource.forest c.args.world.now in
     let views = map item_view c.args.items.now in
     let contexts = c.deref.ensures.value ∙ c.in_ok-contexts.ensures in
-    step_grown old tree views c.deref.result.now contexts h c.args.axis (g.W.TreeSource.meter c.args.world.now) (g.W.TreeSource.meter c.step.new.source) (c.step.ensures.rows k tree (contexts_of old tree views c.deref.result.now contexts h)) c.step.ensures.singles
+    step_grown old tree views c.deref.result.now contexts h c.args.axis (g.W.TreeSource.meter c.args.world.now) (g.W.TreeSource.meter c.step.new.source) (c.step.ensures.rows k tree (contexts_of old tree views c.deref.result.now contexts h)) c.step.ensures.singles (c.step.ensures.sees k tree (contexts_of old tree views c.deref.result.now contexts h))
 
 pub returns-in_err-as_items-clause-reads : goal.returns-in_err-as_items-clause-reads
 returns-in_err-as_items-clause-reads g c = λ k tree h.
     let old = g.W.TreeSource.forest c.args.world.now in
     let views = map item_view c.args.items.now in
     let contexts = c.deref.ensures.value ∙ c.in_ok-contexts.ensures in
-    step_grown old tree views c.deref.result.now contexts h c.args.axis (g.W.TreeSource.meter c.args.world.now) (g.W.TreeSource.meter c.step.new.source) (c.step.ensures.rows k tree (contexts_of old tree views c.deref.result.now contexts h)) c.step.ensures.singles
+    step_grown old tree views c.deref.result.now contexts h c.args.axis (g.W.TreeSource.meter c.args.world.now) (g.W.TreeSource.meter c.step.new.source) (c.step.ensures.rows k tree (contexts_of old tree views c.deref.result.now contexts h)) c.step.ensures.singles (c.step.ensures.sees k tree (contexts_of old tree views c.deref.result.now contexts h))
 
 pub returns-clause-reads : goal.returns-clause-reads
 returns-clause-reads g c = λ k tree h.
     let old = g.W.TreeSource.forest c.args.world.now in
     let views = map item_view c.args.items.now in
     let contexts = c.deref.ensures.value ∙ c.in_ok-contexts.ensures in
-    step_grown old tree views c.deref.result.now contexts h c.args.axis (g.W.TreeSource.meter c.args.world.now) (g.W.TreeSource.meter c.step.new.source) (c.step.ensures.rows k tree (contexts_of old tree views c.deref.result.now contexts h)) c.step.ensures.singles
+    step_grown old tree views c.deref.result.now contexts h c.args.axis (g.W.TreeSource.meter c.args.world.now) (g.W.TreeSource.meter c.step.new.source) (c.step.ensures.rows k tree (contexts_of old tree views c.deref.result.now contexts h)) c.step.ensures.singles (c.step.ensures.sees k tree (contexts_of old tree views c.deref.result.now contexts h))
 
 pub returns-clause-of_tree : goal.returns-clause-of_tree
 returns-clause-of_tree g c = λ k tree h.
@@ -102,6 +103,7 @@ returns-in-Some-clause-reads g c = λ k tree h.
     let is = ap nodes_among (sym c.in-Some.ensures) in
     let of_tree = contexts_of old tree views (node ∷ []) is h in
     step_grown old tree views (node ∷ []) is h axis before after (subst (λ t. after.rows ≤ before.rows + length (region axis (tree_at old t) (node.pre ∷ []))) of_tree.0 (c.in_ok-items_on_axis.ensures.rows k)) c.in_ok-items_on_axis.ensures.singles
+    (subst (λ t. SeesAtMost before after (rows_of old t)) of_tree.0 (c.in_ok-items_on_axis.ensures.sees k))
 
 pub returns-in_err-items_on_axis-clause-reads : goal.returns-in_err-items_on_axis-clause-reads
 returns-in_err-items_on_axis-clause-reads g c = λ k tree h.
@@ -114,6 +116,7 @@ returns-in_err-items_on_axis-clause-reads g c = λ k tree h.
     let is = ap nodes_among (sym c.in-Some.ensures) in
     let of_tree = contexts_of old tree views (node ∷ []) is h in
     step_grown old tree views (node ∷ []) is h axis before after (subst (λ t. after.rows ≤ before.rows + length (region axis (tree_at old t) (node.pre ∷ []))) of_tree.0 (c.in_err-items_on_axis.ensures.rows k)) c.in_err-items_on_axis.ensures.singles
+    (subst (λ t. SeesAtMost before after (rows_of old t)) of_tree.0 (c.in_err-items_on_axis.ensures.sees k))
 
 pub returns-in-Some-clause-of_tree : goal.returns-in-Some-clause-of_tree
 returns-in-Some-clause-of_tree g c = λ k tree h.

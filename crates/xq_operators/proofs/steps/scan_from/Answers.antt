@@ -1,4 +1,4 @@
-use Rattle.std.proofs.Common.{◌≡◌, [], ◌∷◌, sym, subst, Ok, refl}
+use Rattle.std.proofs.Common.{◌≡◌, [], ◌∷◌, sym, subst, Ok, refl, arith}
 use Rattle.std.proofs.lemmas.Result.{IfOk-weaker}
 use Rattle.xq_axes.specs.Nodes.{AreOnAxis}
 use Rattle.xq_trees.specs.Items.{Place, item_views}
@@ -19,3 +19,9 @@ returns-clause-gives g c = λ k has.
     (λ found on. subst (λ f. AreIn f (item_views found) × (Forms.scan axis test (Node (node_at old node) ∷ []) old ≡ (Ok (items_at f (item_views found)), f))) (sym c.items_on_axis.ensures.keeps)
     (scan_gives old axis test (Place node ∷ []) on.nodes (item_views found) refl on.in_order on.there on.are))
     (c.items_on_axis.ensures.items k has)
+
+pub returns-clause-reads : goal.returns-clause-reads
+returns-clause-reads g c = λ k most few.
+    let seen = c.items_on_axis.ensures.sees k in
+    let here = few c.args.node.tree in
+    omega (arith, seen, here)

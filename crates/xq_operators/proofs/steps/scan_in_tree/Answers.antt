@@ -2,7 +2,8 @@ use Rattle.std.proofs.Common.{◌≡◌, ◌≤◌, ◌+◌, ◌∙◌, length, 
 use Rattle.std.proofs.lemmas.Result.{IfOk-weaker}
 use Rattle.xq_axes.specs.Many.{AreReached}
 use Rattle.xq_axes.specs.Nodes.{HaveAll}
-use Rattle.xq_axes.specs.Scans.{region}
+use Rattle.xq_axes.specs.Scans.{region, rows_from}
+use Rattle.xq_sources.specs.Meters.{SeesAtMost}
 use Rattle.xq_trees.specs.Items.{item_views}
 use Rattle.xq_trees.specs.Rising.{AreRising}
 use Rattle.xq_sources.specs.Sources.{tree_at}
@@ -41,6 +42,7 @@ returns-clause-reads g c = λ k views is tree h.
     in_tree_reads old t places views is tree h axis before after
     (subst (λ ps. after.rows ≤ before.rows + length (region axis (tree_at old t) ps)) v (c.in_ok-places.ensures.rows k (subst (λ ps. AreRising (spots t ps)) (sym v) is.rising)))
     (subst (λ ps. after.singles ≤ before.singles + length ps) v c.in_ok-places.ensures.singles)
+    (subst (λ ps. SeesAtMost before after (rows_from (tree_at old t) ps)) v (c.in_ok-places.ensures.sees k (subst (λ ps. AreRising (spots t ps)) (sym v) is.rising)))
 
 pub returns-in_err-places-clause-reads : goal.returns-in_err-places-clause-reads
 returns-in_err-places-clause-reads g c = λ k views is tree h.
@@ -54,6 +56,7 @@ returns-in_err-places-clause-reads g c = λ k views is tree h.
     in_tree_reads old t places views is tree h axis before after
     (subst (λ ps. after.rows ≤ before.rows + length (region axis (tree_at old t) ps)) v (c.in_err-places.ensures.rows k (subst (λ ps. AreRising (spots t ps)) (sym v) is.rising)))
     (subst (λ ps. after.singles ≤ before.singles + length ps) v c.in_err-places.ensures.singles)
+    (subst (λ ps. SeesAtMost before after (rows_from (tree_at old t) ps)) v (c.in_err-places.ensures.sees k (subst (λ ps. AreRising (spots t ps)) (sym v) is.rising)))
 
 pub returns-clause-of_tree : goal.returns-clause-of_tree
 returns-clause-of_tree g c = λ k views is tree h.

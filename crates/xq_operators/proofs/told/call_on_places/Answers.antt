@@ -6,7 +6,7 @@ use Rattle.xq_operators.proofs.told.call_on_places.Goals as goal
 
 pub returns-in-Some-clause-tells : goal.returns-in-Some-clause-tells
 returns-in-Some-clause-tells g c = λ k addresses.
-    c.in-Some.ensures (g.L.TreeSource.forest c.args.source.now) addresses c.args.tree
+    c.in-Some.ensures.tells (g.L.TreeSource.forest c.args.source.now) addresses c.args.tree
 
 pub returns-clause-tells : goal.returns-clause-tells
 returns-clause-tells g c = λ k addresses.
