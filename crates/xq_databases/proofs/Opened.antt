@@ -12,7 +12,7 @@ use Rattle.sqlite.specs.Recovery.{Image}
 use Rattle.sqlite.specs.Start.{FindsIn}
 use Rattle.sqlite.specs.State.{HasCleanDisk}
 use Rattle.xq_store.specs.Adoption.{HasTables, IsBlank}
-use Rattle.xq_store.specs.Documents.{HoldsDocuments, IsClean, StandsFor, documents}
+use Rattle.xq_tables.specs.Documents.{HoldsDocuments, IsClean, StandsFor, documents}
 use Rattle.xq_databases.specs.Opened.{IsLeftIn, StandsForFiles}
 
 module _ {D : Type 0} {g : Ghosts D} (conn : Held (FileStore D g)) where

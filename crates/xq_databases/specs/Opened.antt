@@ -10,7 +10,7 @@ use Rattle.sqlite.specs.Recovery.{Image}
 use Rattle.sqlite.specs.Start.{FindsIn}
 use Rattle.sqlite_disk.specs.declared.Files.{Files}
 use Rattle.xq_store.specs.Adoption.{IsBlank}
-use Rattle.xq_store.specs.Documents.{HoldsDocuments, Map, StandsFor, documents}
+use Rattle.xq_tables.specs.Documents.{HoldsDocuments, Map, StandsFor, documents}
 
 module _ {D : Type 0} {g : Ghosts D} where
   -- the map of a database that is opened: that of its tables, and an empty one where it has none

@@ -2,7 +2,7 @@
 ghost use Rattle.std.specs.Prelude.{◌≡◌, ◌⊎◌, IfSome};
 ghost use Rattle.std.specs.FinMap.{empty};
 ghost use Rattle.xq_store.specs.Adoption.{HasTables, IsBlank};
-ghost use Rattle.xq_store.specs.Documents.{HoldsDocuments, IsClean, IsOpen, StandsFor, documents};
+ghost use Rattle.xq_tables.specs.Documents.{HoldsDocuments, IsClean, IsOpen, StandsFor, documents};
 
 use crate::files::remove_log;
 use sqlite::{Alter, Connection};

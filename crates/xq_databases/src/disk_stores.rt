@@ -3,7 +3,7 @@ ghost use Rattle.std.specs.Prelude.{◌≡◌, IfSome};
 ghost use Rattle.sqlite.specs.Files.{over_files};
 ghost use Rattle.sqlite.specs.WalFiles.{image_at};
 ghost use Rattle.sqlite_wal.specs.Reads.{AreClean};
-ghost use Rattle.xq_store.specs.Documents.{IsClean, IsOpen};
+ghost use Rattle.xq_tables.specs.Documents.{IsClean, IsOpen};
 ghost use Rattle.xq_databases.specs.Opened.{IsLeftIn, StandsForFiles};
 
 use crate::adopting::adopted;

@@ -2,7 +2,7 @@
 ghost use Rattle.std.specs.Prelude.{◌≡◌, IfOk};
 ghost use Rattle.std.specs.FinMap.{empty};
 ghost use Rattle.sqlite.specs.Files.{over_files};
-ghost use Rattle.xq_store.specs.Documents.{IsClean, IsOpen, StandsFor};
+ghost use Rattle.xq_tables.specs.Documents.{IsClean, IsOpen, StandsFor};
 
 use sqlite::FileStore;
 use std::alloc::Global;

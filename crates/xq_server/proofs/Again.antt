@@ -7,7 +7,7 @@ use Rattle.std.proofs.lemmas.Bool.Decides.{nat_tests}
 use Rattle.xq_atoms.specs.declared.refusals.Code.TheVariants.{ProfReply}
 use Rattle.xq_meaning.specs.declared.plans.Plan.{Plan}
 use Rattle.xq_meaning.specs.Printable.{ArePrintable}
-use Rattle.xq_store.specs.Documents.{Map}
+use Rattle.xq_tables.specs.Documents.{Map}
 use Rattle.xq_frame.specs.Request.{query}
 use Rattle.xq_frame.specs.Reply.{longest_text}
 use Rattle.xq_readback.specs.Legible.{AreTrees}

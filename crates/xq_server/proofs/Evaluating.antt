@@ -15,10 +15,10 @@ use Rattle.xq_queries.specs.Values.{Value, plan_value, reply_text}
 use Rattle.xq_queries.specs.ReadBack.{HaveNumbersInRange}
 use Rattle.sqlite.specs.Effect.{Database}
 use Rattle.xq_readback.specs.Legible.{AreTrees}
-use Rattle.xq_store.specs.Documents.{Map, IsStore, IsClean, IsOpen, StandsFor, tree_at, documents_in}
-use Rattle.xq_store.specs.Labels.{shown_rows}
-use Rattle.xq_store.proofs.Keys.{values_are, get_at}
-use Rattle.xq_store.proofs.Ranges.{own_document}
+use Rattle.xq_tables.specs.Documents.{Map, IsStore, IsClean, IsOpen, StandsFor, tree_at, documents_in}
+use Rattle.xq_tables.specs.Labels.{shown_rows}
+use Rattle.xq_tables.proofs.Keys.{values_are, get_at}
+use Rattle.xq_tables.proofs.Ranges.{own_document}
 use Rattle.xq_store.specs.Views.{Beginning, HeldDocuments, StoodFor, WasClean, WasOpen, beginning}
 use Rattle.xq_sources.specs.Meters.{Readings, no_readings}
 use Rattle.xq_sources.specs.Sums.{sum}

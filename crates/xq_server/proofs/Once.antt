@@ -1,7 +1,7 @@
 -- A request has one answer, since a text has one reading.
 use Rattle.std.proofs.Common.{◌≡◌, ℕ, List, sym, ◌∙◌, ap, Ok, Err, Result, inl, inr}
 use Rattle.xq_atoms.specs.declared.refusals.Code.{Code}
-use Rattle.xq_store.specs.Documents.{Map}
+use Rattle.xq_tables.specs.Documents.{Map}
 use Rattle.xq_frame.specs.Request.{RequestMeaning, query, put, remove as remove_one, list, bad}
 use Rattle.xq_queries.specs.Reading.{ReadsAtMostOnce}
 use Rattle.xq_server.specs.Meaning.{Query, Reads, value}

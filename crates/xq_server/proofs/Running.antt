@@ -8,7 +8,7 @@ use Rattle.xq_frame.specs.Frame.{frame_bytes, IsMessage}
 use Rattle.xq_frame.specs.Request.{RequestMeaning, query, put, remove as remove_one, list, bad, request_meaning, message_meaning}
 use Rattle.xq_frame.specs.Next.{Starts, IsFrameOf}
 use Rattle.xq_frame.specs.declared.frames.Frame.{Frame}
-use Rattle.xq_store.specs.Documents.{Map}
+use Rattle.xq_tables.specs.Documents.{Map}
 use Rattle.xq_atoms.specs.Code.{code_text, want_text}
 use Rattle.xq_frame.specs.Reply.{longest_text}
 use Rattle.xq_server.specs.Step.{Step}

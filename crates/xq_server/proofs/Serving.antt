@@ -9,7 +9,7 @@ use Rattle.xq_frame.specs.Frame.{frame_bytes, IsMessage}
 use Rattle.xq_frame.specs.Next.{IsFrameOf}
 use Rattle.xq_frame.specs.Request.{request_meaning}
 use Rattle.xq_frame.specs.declared.frames.Frame.{Frame}
-use Rattle.xq_store.specs.Documents.{Map}
+use Rattle.xq_tables.specs.Documents.{Map}
 use Rattle.xq_frame.specs.Taking.{IsLongHead}
 use Rattle.xq_server.specs.Run.{Reply, bytes_of, written, Answered, long_reply}
 use Rattle.xq_server.specs.Service.{Served, Serves, BreaksOff}

@@ -22,7 +22,7 @@ use Rattle.xq_queries.specs.Reading.{ReadsAtMostOnce, FaultsComeLater}
 use Rattle.xq_readback.specs.Legible.{AreTrees}
 use Rattle.xq_queries.specs.ReadBack.{ReadsBack, ValuesArePrintable}
 use Rattle.xq_queries.specs.Values.{Plans, Value, plan_value, printed, reply_text as text_of, document, or_no_document, made_document}
-use Rattle.xq_store.specs.Documents.{Map}
+use Rattle.xq_tables.specs.Documents.{Map}
 use Rattle.xq_store.specs.declared.stores.Put.TheVariants.{Stored as Fresh, Replaced as Other}
 use Rattle.xq_frame.specs.Request.{RequestMeaning, query, put, remove as remove_one}
 use Rattle.xq_server.specs.Meaning.{value}

@@ -8,7 +8,7 @@ use Rattle.xq_atoms.specs.Print.{quoted}
 use Rattle.xq_atoms.specs.declared.refusals.Code.{Code}
 use Rattle.xq_atoms.specs.declared.refusals.Code.TheVariants.{ProfFrame, ProfAddress, ProfNotdoc, ProfAbsent, ProfReply}
 use Rattle.xq_trees.specs.Tree.{Tree}
-use Rattle.xq_store.specs.Documents.{Map}
+use Rattle.xq_tables.specs.Documents.{Map}
 use Rattle.xq_frame.specs.Request.{RequestMeaning, query, put, remove as remove_one, list, bad}
 use Rattle.xq_server.specs.Meaning.{Query, Reads, Value, value, printed, document}
 use Rattle.xq_frame.specs.Reply.{longest_text}

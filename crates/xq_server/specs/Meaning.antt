@@ -6,7 +6,7 @@ use Rattle.std.specs.FinMap.{keys, values}
 use Rattle.xq_atoms.specs.declared.refusals.Code.{Code}
 use Rattle.xq_expressions.specs.declared.expressions.Expr.{Expr}
 use Rattle.xq_trees.specs.Tree.{Tree}
-use Rattle.xq_store.specs.Documents.{Map}
+use Rattle.xq_tables.specs.Documents.{Map}
 use Rattle.xq_queries.specs.Reading as reading
 use Rattle.xq_queries.specs.Values as values_of
 

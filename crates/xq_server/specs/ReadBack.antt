@@ -1,7 +1,7 @@
 -- The reply to a query, sent again as a query over any documents.
 use Rattle.std.specs.Prelude.{◌≡◌, ℕ, ◌≤◌, List, length, Ok}
 use Rattle.std.specs.FinMap.{keys, values}
-use Rattle.xq_store.specs.Documents.{Map}
+use Rattle.xq_tables.specs.Documents.{Map}
 use Rattle.xq_frame.specs.Request.{RequestMeaning, query}
 use Rattle.xq_queries.specs.ReadBack.{ReadsAgain}
 use Rattle.xq_server.specs.Meaning.{Query, Reads, Value, value}

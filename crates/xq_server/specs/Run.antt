@@ -4,7 +4,7 @@ use Rattle.std.specs.Prelude.{◌≡◌, ℕ, ◌≤◌, List, [], ◌∷◌, �
 use Rattle.std.specs.List.{flat_map, AllByRecursion}
 use Rattle.xq_atoms.specs.Code.{code_text}
 use Rattle.xq_atoms.specs.declared.refusals.Code.TheVariants.{ProfLong}
-use Rattle.xq_store.specs.Documents.{Map}
+use Rattle.xq_tables.specs.Documents.{Map}
 use Rattle.xq_frame.specs.Frame.{frame_bytes, IsMessage, IsTooLong, IsCut}
 use Rattle.xq_frame.specs.Reply.{reply_bytes, longest_text}
 use Rattle.xq_frame.specs.Request.{RequestMeaning, message_meaning, message_tag}

@@ -4,7 +4,7 @@ use Rattle.std.specs.Prelude.{◌≡◌, ℕ, ◌<◌, ◌≤◌, List, [], ◌�
 use Rattle.std.specs.List.{flat_map}
 use Rattle.std.specs.Io.KnownBytes.{Consumes, Appends, IsAtEnd}
 use Rattle.xq_frame.specs.Frame.{frame_bytes, IsMessage, IsCut}
-use Rattle.xq_store.specs.Documents.{Map}
+use Rattle.xq_tables.specs.Documents.{Map}
 use Rattle.xq_frame.specs.Taking.{IsPart, IsHead, IsLongHead}
 use Rattle.xq_server.specs.Run.{Reply, Ran, bytes_of, written, long_reply}
 use Rattle.xq_server.specs.declared.ends.End.{End}

@@ -5,7 +5,7 @@ use Rattle.xq_atoms.specs.declared.refusals.Code.{Code}
 use Rattle.xq_atoms.specs.declared.refusals.Code.TheVariants.{ProfFrame, ProfAddress, ProfUtf8}
 use Rattle.xq_atoms.specs.declared.refusals.Want.{Want}
 use Rattle.xq_atoms.specs.declared.refusals.Want.TheVariants.{Memory, Store}
-use Rattle.xq_store.specs.Documents.{Map}
+use Rattle.xq_tables.specs.Documents.{Map}
 use Rattle.xq_frame.specs.Request.{RequestMeaning}
 use Rattle.xq_server.specs.Answer.{RefusesRequest, Answers}
 

@@ -2,7 +2,7 @@
 ghost use Rattle.std.specs.Prelude.{◌≡◌, IfOk, MatchResult};
 ghost use Rattle.xq_atoms.specs.Address.{IsAddress};
 ghost use Rattle.xq_atoms.specs.declared.refusals.Code.TheVariants.{ProfAddress};
-ghost use Rattle.xq_store.specs.Documents.{IsClean, IsOpen, Map, StandsFor};
+ghost use Rattle.xq_tables.specs.Documents.{IsClean, IsOpen, Map, StandsFor};
 ghost use Rattle.xq_frame.specs.Request.{request_meaning, query, put, remove as remove_one, list};
 ghost use Rattle.xq_server.specs.private.Work.{GivesDocument, HasDocumentRoot, Tells, IsShort};
 

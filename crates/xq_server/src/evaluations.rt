@@ -6,7 +6,7 @@ ghost use Rattle.std.specs.Prelude.{◌≡◌, ◌≤◌, IfOk, length};
 ghost use Rattle.std.specs.FinMap.{keys, values};
 ghost use Rattle.xq_readback.specs.Legible.{AreTrees};
 ghost use Rattle.xq_queries.specs.Values.{plan_value};
-ghost use Rattle.xq_store.specs.Documents.{IsClean, IsOpen, Map, StandsFor};
+ghost use Rattle.xq_tables.specs.Documents.{IsClean, IsOpen, Map, StandsFor};
 ghost use Rattle.xq_store.specs.Views.{beginning};
 ghost use Rattle.xq_sources.specs.Meters.{no_readings};
 ghost use Rattle.xq_server.specs.private.Work.{Makes};

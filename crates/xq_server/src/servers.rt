@@ -2,7 +2,7 @@
 //! writer.
 ghost use Rattle.std.specs.Prelude.{◌≡◌, ◌+◌, ◌<◌, ◌++◌, ◌⊎◌, OnOk, OnErr, IfErr, vec_len, vec_capacity};
 ghost use Rattle.xq_atoms.specs.declared.refusals.Want.TheVariants.{Memory};
-ghost use Rattle.xq_store.specs.Documents.{IsClean, IsOpen, StandsFor};
+ghost use Rattle.xq_tables.specs.Documents.{IsClean, IsOpen, StandsFor};
 ghost use Rattle.xq_frame.specs.Request.{request_meaning};
 ghost use Rattle.xq_server.specs.Run.{Reply, Answered, RunsTo, long_reply};
 ghost use Rattle.xq_server.specs.Service.{Serves};

@@ -5,16 +5,16 @@ use Rattle.sqlite_trees.specs.declared.store.Store.{Ghosts}
 use Rattle.sqlite.specs.Held.{Held, state}
 use Rattle.sqlite.specs.State.{HasCleanDisk}
 use Rattle.xq_store.specs.Adoption.{IsBlank, HasOldTables, HasStoreTables, HasTables}
-use Rattle.xq_store.specs.Documents.{IsReady, IsClean, IsOpen, IsUp, HoldsDocuments, StandsFor, documents, documents_of, IsStore}
-use Rattle.xq_store.specs.Labels.{shown_rows, IsStoreSchema}
-use Rattle.xq_store.specs.Tables.{no_schema, node_rows, IsOldSchema}
-use Rattle.xq_store.specs.declared.schemas.Tables.{Tables}
-use Rattle.xq_store.specs.declared.schemas.Tables.TheVariants.{Blank, Current, Old}
+use Rattle.xq_tables.specs.Documents.{IsReady, IsClean, IsOpen, IsUp, HoldsDocuments, StandsFor, documents, documents_of, IsStore}
+use Rattle.xq_tables.specs.Labels.{shown_rows, IsStoreSchema}
+use Rattle.xq_tables.specs.Tables.{no_schema, node_rows, IsOldSchema}
+use Rattle.xq_tables.specs.declared.schemas.Tables.{Tables}
+use Rattle.xq_tables.specs.declared.schemas.Tables.TheVariants.{Blank, Current, Old}
 use Rattle.xq_store.specs.declared.shelves.Cache.{Cache}
-use Rattle.xq_store.specs.private.Adopt.{IsAdopted, IsNoStore}
+use Rattle.xq_store.specs.private.Adopted.{IsAdopted, IsNoStore}
 use Rattle.xq_store.specs.private.Keeps.{AreOf, IsKeeping, Keeps}
-use Rattle.xq_store.specs.private.Schemas.{AreTables}
-use Rattle.xq_store.proofs.Maps.{no_documents}
+use Rattle.xq_tables.specs.Editions.{AreTables}
+use Rattle.xq_tables.proofs.Maps.{no_documents}
 
 module _ {S : Type 0} (g : Ghosts S) (conn new : Held S) where
   -- which tables there were

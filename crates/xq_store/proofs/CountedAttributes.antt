@@ -7,7 +7,7 @@ use Rattle.xq_trees.specs.RegionTests.{plain_row}
 use Rattle.xq_sources.specs.Lent.{unplaced}
 use Rattle.xq_sources.specs.AttributeRows.{AreAttributeRows}
 use Rattle.xq_sources.specs.Sources.{tree_at as nth_tree}
-use Rattle.xq_store.specs.Documents.{IsClean}
+use Rattle.xq_tables.specs.Documents.{IsClean}
 use Rattle.xq_store.specs.Views.{Beginning, HeldDocuments, Viewed, trees_under}
 use Rattle.xq_store.specs.declared.shelves.CachedDocument.{CachedDocument}
 use Rattle.xq_store.specs.private.Shelves.{IsFront, IsShelved, front_at}

@@ -17,7 +17,7 @@ use Rattle.xq_sources.specs.Lenders.{IsRun}
 use Rattle.xq_sources.specs.Names.{named}
 use Rattle.xq_sources.specs.Sources.{rows_between, tree_at}
 use Rattle.xq_sources.proofs.Intervals.{between-places}
-use Rattle.xq_store.proofs.Loads.{length-labels}
+use Rattle.xq_tables.proofs.Loads.{length-labels}
 use Rattle.xq_store.proofs.ViewLaws.{one_placed}
 use Rattle.xq_store.specs.declared.shelves.CachedDocument.{CachedDocument}
 use Rattle.xq_store.specs.private.Shelves.{AreFronts, HasReached, IsFront, IsFrontOf, Reaches, front_at, kept_rows, run_of}

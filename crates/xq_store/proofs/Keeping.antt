@@ -8,19 +8,20 @@ use Rattle.sqlite.specs.Held.{Held, state}
 use Rattle.sqlite.specs.State.{HasCleanDisk}
 use Rattle.xq_trees.specs.Tree.{Tree, IsDocument}
 use Rattle.xq_store.specs.declared.shelves.Cache.{Cache}
-use Rattle.xq_store.specs.Documents.{IsReady, IsClean, IsOpen, IsUp, IsStore, Map, StandsFor, documents_in, is_at, tree_at}
-use Rattle.xq_store.specs.Labels.{shown_rows, IsStoreSchema}
+use Rattle.xq_tables.specs.Documents.{IsReady, IsClean, IsOpen, IsUp, IsStore, Map, StandsFor, documents_in, is_at, tree_at}
+use Rattle.xq_tables.specs.Labels.{shown_rows, IsStoreSchema}
 use Rattle.xq_store.specs.Views.{Beginning, HeldDocuments, StoodFor, Viewed, beginning, trees_under}
-use Rattle.xq_store.specs.private.Keeps.{AreOf, IsKeeping, IsKept, Keeps, KeepsShelf, LeavesAlone, StaysOutside}
+use Rattle.xq_store.specs.private.Keeps.{AreOf, IsKeeping, IsKept, Keeps, KeepsShelf, LeavesAlone}
+use Rattle.xq_tables.specs.Outside.{StaysOutside}
 use Rattle.xq_store.specs.declared.shelves.CachedDocument.{CachedDocument}
 use Rattle.xq_store.specs.private.Shelves.{AreFronts, AreKeptOf, HasDropped as ShelfHasDropped, HasPut, IsFrontOf, IsShelved}
-use Rattle.xq_store.specs.private.Statements.{AreThere, Deletes, IsEmptyStore, Puts, PutsOver}
-use Rattle.xq_store.specs.Nodes.{cells}
+use Rattle.xq_tables.specs.Writes.{AreThere, Deletes, IsEmptyStore, Puts, PutsOver}
+use Rattle.xq_tables.specs.Nodes.{cells}
 use Rattle.xq_atoms.specs.Address.{IsAddress}
 use Rattle.xq_trees.specs.Rows.{Row as Node, placed_rows}
 use Rattle.sqlite.specs.Effect.{Database}
-use Rattle.xq_store.proofs.Maps.{no_keys, store_drops, store_puts}
-use Rattle.xq_store.proofs.Renewals.{none_there}
+use Rattle.xq_tables.proofs.Maps.{no_keys, store_drops, store_puts}
+use Rattle.xq_tables.proofs.Renewals.{none_there}
 use Rattle.xq_store.proofs.Shelving.{front_there, kept_drop, kept_put}
 
 -- a shelf without an address

@@ -8,7 +8,7 @@ use Rattle.xq_trees.specs.Rows.{Row, rows, row_at}
 use Rattle.xq_sources.specs.Lenders.{IsRun}
 use Rattle.xq_sources.specs.Meters.{Readings}
 use Rattle.xq_sources.specs.Sources.{HasTree, HasNode, rows_between, tree_at as nth_tree}
-use Rattle.xq_store.specs.Documents.{Map, IsClean, StandsFor}
+use Rattle.xq_tables.specs.Documents.{Map, IsClean, StandsFor}
 use Rattle.xq_store.specs.Views.{Beginning, HeldDocuments, IsView, Viewed, trees_under}
 use Rattle.xq_store.specs.declared.shelves.CachedDocument.{CachedDocument}
 use Rattle.xq_store.specs.private.Shelves.{AreFronts, AreListed, HasReached, IsFront, IsShelved, front_at, run_of}

@@ -9,18 +9,18 @@ use Rattle.xq_trees.specs.Tree.{Tree, IsDocument}
 use Rattle.xq_trees.specs.Rows.{placed_rows}
 use Rattle.xq_sources.specs.Addresses.{IsBefore, IsGap, Rise}
 use Rattle.xq_sources.proofs.Rising.{at_all}
-use Rattle.xq_store.specs.Documents.{IsStore, documents_of, is_at, tree_at}
-use Rattle.xq_store.specs.Nodes.{cells}
-use Rattle.xq_store.specs.Labels.{shown_rows}
+use Rattle.xq_tables.specs.Documents.{IsStore, documents_of, is_at, tree_at}
+use Rattle.xq_tables.specs.Nodes.{cells}
+use Rattle.xq_tables.specs.Labels.{shown_rows}
 use Rattle.xq_store.specs.declared.shelves.CachedDocument.{CachedDocument}
 use Rattle.xq_store.specs.declared.shelves.Cache.{Cache}
 use Rattle.xq_store.specs.private.Keeps.{AreOf}
 use Rattle.xq_store.specs.private.Shelves.{AreFronts, HasDropped as ShelfHasDropped, HasPut, IsFront, IsFrontOf, front_at, kept_rows}
-use Rattle.xq_store.specs.private.Statements.{AreThere, HasDropped, HasReplaced}
-use Rattle.xq_store.proofs.MapPlaces.{apart, apart_too, gap_apart, keys_drop_gap, keys_drop_there, keys_put_gap, keys_put_there, keys_rise}
-use Rattle.xq_store.proofs.Keys.{get_at}
-use Rattle.xq_store.proofs.Renewals.{first_there}
-use Rattle.xq_store.proofs.Maps.{dropped_map, get-none, get-whole, own_tree, put_map, tree_stays_dropped, tree_stays_put}
+use Rattle.xq_tables.specs.Writes.{AreThere, HasDropped, HasReplaced}
+use Rattle.xq_tables.proofs.MapPlaces.{apart, apart_too, gap_apart, keys_drop_gap, keys_drop_there, keys_put_gap, keys_put_there, keys_rise}
+use Rattle.xq_tables.proofs.Keys.{get_at}
+use Rattle.xq_tables.proofs.Renewals.{first_there}
+use Rattle.xq_tables.proofs.Maps.{dropped_map, get-none, get-whole, own_tree, put_map, tree_stays_dropped, tree_stays_put}
 
 -- # Fronts, place by place
 

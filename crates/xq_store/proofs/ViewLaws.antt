@@ -14,12 +14,12 @@ use Rattle.xq_trees.specs.declared.NodeRow.{NodeRow}
 use Rattle.xq_sources.specs.Meters.{Readings}
 use Rattle.xq_sources.specs.Sources.{rows_between, tree_at as nth_tree}
 use Rattle.xq_sources.proofs.Intervals.{between-places}
-use Rattle.xq_store.specs.Documents.{Map, IsClean, IsOpen, StandsFor, documents_in, tree_at}
+use Rattle.xq_tables.specs.Documents.{Map, IsClean, IsOpen, StandsFor, documents_in, tree_at}
 use Rattle.xq_store.specs.Views.{Beginning, HeldDocuments, StoodFor, Viewed, IsView, WasClean, WasOpen, beginning, trees_under}
-use Rattle.xq_store.proofs.Keys.{values_are, get_at}
-use Rattle.xq_store.proofs.Loads.{length-labels}
-use Rattle.xq_store.proofs.Ranges.{own_document}
-use Rattle.xq_store.specs.Labels.{shown_rows}
+use Rattle.xq_tables.proofs.Keys.{values_are, get_at}
+use Rattle.xq_tables.proofs.Loads.{length-labels}
+use Rattle.xq_tables.proofs.Ranges.{own_document}
+use Rattle.xq_tables.specs.Labels.{shown_rows}
 
 -- # As the view begins
 

@@ -2,8 +2,8 @@
 use Rattle.std.specs.Prelude.{◌≡◌, ◌⊎◌}
 use Rattle.sqlite_trees.specs.declared.store.Store.{Ghosts}
 use Rattle.sqlite.specs.Held.{Held, state}
-use Rattle.xq_store.specs.Labels.{IsStoreSchema}
-use Rattle.xq_store.specs.Tables.{no_schema, IsOldSchema}
+use Rattle.xq_tables.specs.Labels.{IsStoreSchema}
+use Rattle.xq_tables.specs.Tables.{no_schema, IsOldSchema}
 
 -- A connection whose database is to be adopted: `g` are the ghosts of what it keeps its database
 -- in.

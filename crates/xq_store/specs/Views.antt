@@ -10,8 +10,8 @@ use Rattle.sqlite.specs.Effect.{Database}
 use Rattle.sqlite.specs.Held.{Held, held_code, state}
 use Rattle.xq_trees.specs.Tree.{Tree}
 use Rattle.xq_sources.specs.Meters.{Readings}
-use Rattle.xq_store.specs.Documents.{Map, IsStore, IsClean, StandsFor, tree_at, documents_of}
-use Rattle.xq_store.specs.Labels.{shown_rows}
+use Rattle.xq_tables.specs.Documents.{Map, IsStore, IsClean, StandsFor, tree_at, documents_of}
+use Rattle.xq_tables.specs.Labels.{shown_rows}
 
 -- # What contracts see of a view
 

@@ -1,10 +1,3 @@
-pub mod Schemas
+pub mod Adopted
 pub mod Shelves
 pub mod Keeps
-pub mod Streams
-pub mod Columns
-pub mod Adopt
-pub mod Statements
-pub mod Refusals
-pub mod Carries
-pub mod Numbered

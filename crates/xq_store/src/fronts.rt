@@ -7,7 +7,7 @@ ghost use Rattle.xq_trees.specs.Forest.{count};
 ghost use Rattle.xq_trees.specs.Tree.{Tree, nodes};
 ghost use Rattle.xq_sources.specs.Lenders.{after_search};
 ghost use Rattle.xq_sources.specs.Meters.{GivesNone};
-ghost use Rattle.xq_store.specs.Documents.{IsClean, IsOpen, Map, StandsFor};
+ghost use Rattle.xq_tables.specs.Documents.{IsClean, IsOpen, Map, StandsFor};
 ghost use Rattle.xq_store.specs.declared.shelves.Cache.{Cache};
 ghost use Rattle.xq_store.specs.private.Keeps.{LeavesAlone};
 ghost use Rattle.xq_store.specs.private.Shelves.{AreFronts, AreListed, HasReached, IsFront, IsFrontOf, Reaches, front_at, kept_rows, run_of};

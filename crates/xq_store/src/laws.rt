@@ -1,7 +1,7 @@
 //! Laws about stores: those in memory are clean, whatever was done to them.
 ghost use Rattle.sqlite.specs.Files.{over_files};
 ghost use Rattle.sqlite.specs.Steps.{over_memory};
-ghost use Rattle.xq_store.specs.Documents.{IsClean};
+ghost use Rattle.xq_tables.specs.Documents.{IsClean};
 
 use crate::stores::Store;
 use sqlite::{FileStore, MemStore};

@@ -2,17 +2,18 @@
 ghost use Rattle.std.specs.Prelude.{◌≡◌, IfOk, IsTrue, OnOk, false};
 ghost use Rattle.sqlite.specs.Held.{state};
 ghost use Rattle.sqlite.specs.State.{HasCleanDisk};
-ghost use Rattle.xq_store.specs.Documents.{IsReady, IsStore};
-ghost use Rattle.xq_store.specs.Labels.{IsStoreSchema};
+ghost use Rattle.xq_tables.specs.Documents.{IsReady, IsStore};
+ghost use Rattle.xq_tables.specs.Labels.{IsStoreSchema};
 ghost use Rattle.xq_store.specs.declared.shelves.Cache.{Cache};
-ghost use Rattle.xq_store.specs.private.Keeps.{AreOf, StaysOutside};
+ghost use Rattle.xq_store.specs.private.Keeps.{AreOf};
+ghost use Rattle.xq_tables.specs.Outside.{StaysOutside};
 
-use crate::readings::list_addresses;
 use crate::shelves::Cache;
 use sqlite::{Alter, Connection};
 use std::alloc::Global;
 use xq_atoms::Want;
 use xq_sources::Addresses;
+use xq_tables::list_addresses;
 
 /// The addresses of the documents in the tables, with no row of one.
 pub(crate) fn list_shelf<S: Alter>(alloc: Global, conn: &mut Connection<S>) -> Result<Cache, Want>

@@ -15,23 +15,17 @@ ghost use Rattle.xq_store.specs.Adoption.{IsBlank, HasOldTables, HasStoreTables,
 ghost use Rattle.xq_trees.specs.Rows.{placed};
 ghost use Rattle.xq_trees.specs.Tree.{IsDocument, Tree};
 ghost use Rattle.xq_store.specs.declared.shelves.Cache.{Cache};
-ghost use Rattle.xq_store.specs.Documents.{IsStore, IsClean, IsOpen, IsUp, HoldsDocuments, Map, StandsFor, documents};
+ghost use Rattle.xq_tables.specs.Documents.{IsStore, IsClean, IsOpen, IsUp, HoldsDocuments, Map, StandsFor, documents};
 ghost use Rattle.xq_store.specs.private.Keeps.{AreOf, IsKept, LeavesAlone};
-ghost use Rattle.xq_store.specs.Tables.{node_rows};
+ghost use Rattle.xq_tables.specs.Tables.{node_rows};
 ghost use Rattle.xq_store.specs.private.Shelves.{HasDropped, HasPut};
-ghost use Rattle.xq_store.specs.Labels.{IsStoreSchema};
+ghost use Rattle.xq_tables.specs.Labels.{IsStoreSchema};
 ghost use Rattle.xq_sources.specs.Sources.{rows_between, rows_enclosing};
 
 use crate::adoptions::adopt_tables;
-use crate::faults::OpenFault;
 use crate::listings::list_shelf;
-use crate::memory_files::open_empty;
-use crate::readings::{check_open, document_of, nodes_above, nodes_between};
 use crate::room::with_room;
-use crate::schemas::tables_in;
 use crate::shelves::{Cache, CachedDocument, all_of, kept_of, time_of};
-use crate::tables::make_tables;
-use crate::transactions::{drop_rows, put_rows};
 use sqlite::{Alter, Connection, FileStore, MemStore};
 use std::alloc::Global;
 use std::marker::Model;
@@ -39,6 +33,11 @@ use xq_atoms::Want;
 use xq_memory_disk::MemoryDisk;
 use xq_packed::PackedTree;
 use xq_sources::LentRows;
+use xq_tables::schemas::tables_in;
+use xq_tables::{
+    OpenFault, check_open, document_of, drop_rows, make_tables, nodes_above, nodes_between,
+    open_empty, put_rows,
+};
 use xq_trees::{NodeRow, RowTree};
 
 /// Documents under addresses, in the tables of a database. Contracts see the store's connection,

@@ -1,8 +1,8 @@
 //! Views: the documents of a store as trees whose rows are read where they lie.
 ghost use Rattle.std.specs.Prelude.{◌≡◌, IfErr, IfOk, map, string_bytes};
 ghost use Rattle.std.specs.FinMap.{keys, values};
-ghost use Rattle.xq_store.specs.Documents.{IsClean, IsOpen, Map, StandsFor};
-ghost use Rattle.xq_store.specs.Tables.{no_schema};
+ghost use Rattle.xq_tables.specs.Documents.{IsClean, IsOpen, Map, StandsFor};
+ghost use Rattle.xq_tables.specs.Tables.{no_schema};
 ghost use Rattle.xq_store.specs.Views.{Beginning, HeldDocuments, StoodFor, WasClean, WasOpen, beginning, trees_under};
 ghost use Rattle.xq_sources.specs.Meters.{no_readings};
 

@@ -5,7 +5,8 @@ use sqlite::{Alter, Connection, MemStore};
 use std::alloc::Global;
 use xq_atoms::{Want, address_ok};
 use xq_packed::PackedTree;
-use xq_store::{OpenFault, Put, Store};
+use xq_store::{Put, Store};
+use xq_tables::OpenFault;
 use xq_trees::RowTree;
 
 /// A new store in memory.

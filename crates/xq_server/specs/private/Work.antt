@@ -12,7 +12,7 @@ use Rattle.xq_atoms.specs.Judged.{Judged}
 use Rattle.xq_meaning.specs.declared.plans.Plan.{Plan}
 use Rattle.xq_trees.specs.Tree.{Tree}
 use Rattle.xq_trees.specs.declared.Kind.TheVariants.{Document}
-use Rattle.xq_store.specs.Documents.{Map}
+use Rattle.xq_tables.specs.Documents.{Map}
 use Rattle.xq_frame.specs.Reply.{reply_bytes, longest_text}
 use Rattle.xq_frame.specs.Request.{RequestMeaning, query, put}
 use Rattle.xq_queries.specs.Scans.{ScansItsDocument}

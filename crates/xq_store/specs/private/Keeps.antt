@@ -1,32 +1,15 @@
 -- What calls keep: of the connection, and of its documents from one view to the next.
-use Rattle.std.specs.Prelude.{◌≡◌, ◌≤◌, ⊤, ℕ, false, List, map, Option, Some, None, IsTrue}
+use Rattle.std.specs.Prelude.{◌≡◌, ⊤, ℕ, false, List, map, Option, Some, None, IsTrue}
 use Rattle.std.specs.FinMap.{keys}
 use Rattle.sqlite_trees.specs.declared.store.Store.{Ghosts}
 use Rattle.sqlite.specs.Effect.{Database}
 use Rattle.sqlite.specs.Held.{Held, state}
-use Rattle.sqlite.specs.State.{HasCleanDisk, KeepsCommit}
-use Rattle.sqlite.specs.declared.transaction.Transaction.{Transaction}
-use Rattle.sqlite_trees.specs.View.{doubt}
+use Rattle.sqlite.specs.State.{HasCleanDisk}
 use Rattle.xq_store.specs.declared.shelves.CachedDocument.{CachedDocument}
 use Rattle.xq_store.specs.declared.shelves.Cache.{Cache}
-use Rattle.xq_store.specs.Documents.{IsReady, IsStore, documents_of, tree_at}
-use Rattle.xq_store.specs.Labels.{shown_rows, IsStoreSchema}
+use Rattle.xq_tables.specs.Documents.{IsReady, IsStore, documents_of, tree_at}
+use Rattle.xq_tables.specs.Labels.{shown_rows, IsStoreSchema}
 use Rattle.xq_store.specs.private.Shelves.{AreFronts}
-
--- A call outside of any transaction leaves none under way. The disk was clean, and the database
--- open, where they are so afterwards.
-pub record StaysOutside {S : Type 0} (g : Ghosts S) (old new : Held S) : Type 0 where
-  pub mode : new.in_transaction ≡ false
-  pub clean : doubt (state g old).is_clean ≤ doubt (state g new).is_clean
-  pub was_open : IsReady (state g new) → IsTrue (state g old).is_open
-
--- A call inside a transaction leaves it over the connection that it borrowed, the disk was clean
--- where it is so afterwards, and nothing was committed.
-pub record StaysInside {S : Type 0} (g : Ghosts S) (old new : Transaction S) : Type 0 where
-  pub same_reference : new.conn.ghost_name ≡ old.conn.ghost_name
-  pub clean : doubt (state g old.conn.now).is_clean ≤ doubt (state g new.conn.now).is_clean
-  pub kept : HasCleanDisk (state g new.conn.now)
-      → KeepsCommit (state g old.conn.now) (state g new.conn.now)
 
 -- these are the addresses of the documents in the tables, and of each document the first rows
 pub record AreOf (db : Database) (addresses : List (List ℕ)) (fronts : List CachedDocument) : Type 0 where

@@ -13,8 +13,8 @@ use Rattle.xq_sources.specs.Values.{AreValues}
 use Rattle.std.specs.List.{enumerate_from, insert, remove, slice_set as set}
 use Rattle.xq_sources.specs.Sources.{tree_at}
 use Rattle.sqlite.specs.Held.{state}
-use Rattle.xq_store.specs.Documents.{Map, IsClean, IsReady}
-use Rattle.xq_store.specs.Labels.{IsStoreSchema}
+use Rattle.xq_tables.specs.Documents.{Map, IsClean, IsReady}
+use Rattle.xq_tables.specs.Labels.{IsStoreSchema}
 use Rattle.xq_store.specs.Views.{Beginning, HeldDocuments, Viewed, IsView, trees_under}
 
 -- these are the first rows of a tree

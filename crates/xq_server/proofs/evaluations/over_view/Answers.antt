@@ -1,7 +1,7 @@
 use Rattle.std.proofs.Common.{◌∙◌, subst}
 use Rattle.std.specs.FinMap.{values}
 use Rattle.xq_readback.specs.Legible.{AreTrees}
-use Rattle.xq_store.specs.Documents.{IsClean}
+use Rattle.xq_tables.specs.Documents.{IsClean}
 use Rattle.xq_store.specs.Views.{HeldDocuments}
 use Rattle.xq_server.proofs.Evaluating.{was_clean, was_open, stood, held, made_over, if_any, stood_trees}
 use Rattle.xq_server.proofs.evaluations.over_view.Goals as goal

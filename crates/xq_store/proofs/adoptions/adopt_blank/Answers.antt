@@ -1,9 +1,9 @@
 use Rattle.std.proofs.Common.{◌≡◌, []}
 use Rattle.sqlite.specs.Held.{state}
-use Rattle.xq_store.specs.Documents.{IsReady}
+use Rattle.xq_tables.specs.Documents.{IsReady}
 use Rattle.xq_store.specs.declared.shelves.Cache.{Cache}
 use Rattle.xq_store.specs.private.Keeps.{AreOf}
-use Rattle.xq_store.proofs.AdoptReads.{each_some}
+use Rattle.xq_tables.proofs.AdoptReads.{each_some}
 use Rattle.xq_store.proofs.Keeping.{empty_of}
 use Rattle.xq_store.proofs.adoptions.adopt_blank.Goals as goal
 

@@ -2,7 +2,7 @@ use Rattle.std.proofs.Common.{◌≡◌, ◌+◌, ◌-◌, Some, length}
 use Rattle.std.specs.List.{enumerate_from}
 use Rattle.std.specs.FinMap.{get}
 use Rattle.xq_trees.specs.Tree.{Tree}
-use Rattle.xq_store.specs.Documents.{IsClean, IsOpen, Map, StandsFor}
+use Rattle.xq_tables.specs.Documents.{IsClean, IsOpen, Map, StandsFor}
 use Rattle.xq_store.specs.private.Keeps.{LeavesAlone}
 use Rattle.xq_store.specs.private.Shelves.{IsFront}
 use Rattle.xq_store.proofs.fronts.read_rows.Given as goal

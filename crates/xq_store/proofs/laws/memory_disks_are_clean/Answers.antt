@@ -1,6 +1,6 @@
 use Rattle.std.proofs.Common.{refl}
 use Rattle.sqlite.specs.Files.{over_files}
-use Rattle.xq_store.proofs.Calls.{clean_now}
+use Rattle.xq_tables.proofs.Calls.{clean_now}
 use Rattle.xq_store.proofs.MemoryFiles.{always_clean}
 use Rattle.xq_store.proofs.laws.memory_disks_are_clean.Goals as goal
 

@@ -1,6 +1,6 @@
 use Rattle.sqlite.specs.Steps.{over_memory}
 use Rattle.sqlite.proofs.Callers.{memory_is_clean}
-use Rattle.xq_store.proofs.Calls.{clean_now}
+use Rattle.xq_tables.proofs.Calls.{clean_now}
 use Rattle.xq_store.proofs.laws.memory_is_clean.Goals as goal
 
 pub returns : goal.returns

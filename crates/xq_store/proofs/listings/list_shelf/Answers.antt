@@ -3,13 +3,13 @@ use Rattle.std.proofs.lemmas.List.{length-map}
 use Rattle.sqlite.specs.Effect.{Database}
 use Rattle.sqlite.specs.Held.{state}
 use Rattle.xq_trees.specs.Tree.{Tree}
-use Rattle.xq_store.specs.Documents.{documents_of, tree_at}
-use Rattle.xq_store.specs.Labels.{shown_rows}
+use Rattle.xq_tables.specs.Documents.{documents_of, tree_at}
+use Rattle.xq_tables.specs.Labels.{shown_rows}
 use Rattle.xq_store.specs.declared.shelves.Cache.{Cache}
 use Rattle.std.specs.FinMap.{keys}
 use Rattle.xq_store.specs.private.Keeps.{AreOf}
 use Rattle.xq_store.specs.private.Shelves.{AreFronts}
-use Rattle.xq_store.proofs.Keys.{keys_are}
+use Rattle.xq_tables.proofs.Keys.{keys_are}
 use Rattle.xq_store.proofs.listings.list_shelf.Goals as goal
 
 -- a shelf without a row

@@ -1,4 +1,4 @@
-use Rattle.xq_store.specs.Documents.{IsClean, StandsFor}
+use Rattle.xq_tables.specs.Documents.{IsClean, StandsFor}
 use Rattle.xq_server.proofs.Running.{replied, answered}
 use Rattle.xq_server.proofs.servers.Server.answer.Goals as goal
 

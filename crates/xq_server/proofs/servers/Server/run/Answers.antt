@@ -1,5 +1,5 @@
 use Rattle.std.proofs.Common.{◌++◌, ◌∷◌, [], List, ℕ, subst}
-use Rattle.xq_store.specs.Documents.{IsClean, StandsFor}
+use Rattle.xq_tables.specs.Documents.{IsClean, StandsFor}
 use Rattle.xq_server.specs.Run.{RanOver}
 use Rattle.xq_server.proofs.Running.{no_frames, one_more, left_after}
 use Rattle.xq_server.proofs.servers.Server.run.Goals as goal

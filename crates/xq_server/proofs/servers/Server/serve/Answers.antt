@@ -1,6 +1,6 @@
 use Rattle.std.proofs.Common.{◌≡◌, ◌++◌, ◌∷◌, [], List, ℕ, refl, sym, subst, inl, inr, arith}
 use Rattle.std.specs.Io.KnownBytes.{Appends}
-use Rattle.xq_store.specs.Documents.{IsClean, StandsFor}
+use Rattle.xq_tables.specs.Documents.{IsClean, StandsFor}
 use Rattle.xq_frame.specs.Next.{IsFrameOf}
 use Rattle.xq_server.specs.Run.{written, bytes_of}
 use Rattle.xq_server.specs.Service.{Served}

@@ -1,5 +1,5 @@
 use Rattle.std.proofs.Common.{◌≡◌, List, ℕ, [], length}
-use Rattle.xq_store.specs.Documents.{IsClean, IsOpen, StandsFor}
+use Rattle.xq_tables.specs.Documents.{IsClean, IsOpen, StandsFor}
 use Rattle.xq_server.specs.Run.{Reply, written}
 use Rattle.xq_server.specs.Service.{Served}
 use Rattle.xq_server.proofs.servers.Server.serve.Given as goal

@@ -4,7 +4,7 @@ use Rattle.xq_trees.specs.Tree.{IsTree}
 use Rattle.xq_sources.specs.Lent.{unplaced}
 use Rattle.xq_sources.specs.AttributeRows.{AreAttributeRows}
 use Rattle.xq_sources.specs.Sources.{tree_at as nth_tree}
-use Rattle.xq_store.specs.Documents.{IsClean}
+use Rattle.xq_tables.specs.Documents.{IsClean}
 use Rattle.xq_store.specs.Views.{Viewed, trees_under}
 use Rattle.xq_store.specs.private.Shelves.{front_at}
 use Rattle.xq_store.proofs.CountedAttributes.{counted_of, tree_of}

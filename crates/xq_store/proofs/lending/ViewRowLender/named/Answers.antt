@@ -2,7 +2,7 @@ use Rattle.std.proofs.Common.{◌≡◌, sym, subst, IfSome}
 use Rattle.xq_trees.specs.Rows.{placed_rows}
 use Rattle.xq_sources.specs.Names.{named as named_places}
 use Rattle.xq_sources.specs.Sources.{tree_at as nth_tree}
-use Rattle.xq_store.specs.Documents.{IsClean}
+use Rattle.xq_tables.specs.Documents.{IsClean}
 use Rattle.xq_store.specs.Views.{Viewed, trees_under}
 use Rattle.xq_store.proofs.lending.ViewRowLender.named.Goals as goal
 

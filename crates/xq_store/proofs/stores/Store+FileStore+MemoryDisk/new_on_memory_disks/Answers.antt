@@ -1,9 +1,9 @@
 use Rattle.std.proofs.Common.{refl}
 use Rattle.sqlite.specs.Held.{state}
 use Rattle.sqlite.specs.Files.{over_files}
-use Rattle.xq_store.specs.Documents.{IsReady}
+use Rattle.xq_tables.specs.Documents.{IsReady}
 use Rattle.xq_store.proofs.Keeping.{keeping_empty}
-use Rattle.xq_store.proofs.Calls.{new_clean, new_open, new_empty}
+use Rattle.xq_tables.proofs.Calls.{new_clean, new_open, new_empty}
 use Rattle.xq_store.proofs.MemoryFiles.{always_clean}
 use Rattle.xq_store.proofs.stores.Store+FileStore+MemoryDisk.new_on_memory_disks.Goals as goal
 

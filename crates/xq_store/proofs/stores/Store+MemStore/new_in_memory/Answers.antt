@@ -2,9 +2,9 @@ use Rattle.std.proofs.Common.{refl}
 use Rattle.sqlite.specs.Held.{state}
 use Rattle.sqlite.specs.Steps.{over_memory}
 use Rattle.sqlite.proofs.Callers.{memory_is_clean}
-use Rattle.xq_store.specs.Documents.{IsReady}
+use Rattle.xq_tables.specs.Documents.{IsReady}
 use Rattle.xq_store.proofs.Keeping.{keeping_empty}
-use Rattle.xq_store.proofs.Calls.{new_clean, new_open, new_empty}
+use Rattle.xq_tables.proofs.Calls.{new_clean, new_open, new_empty}
 use Rattle.xq_store.proofs.stores.Store+MemStore.new_in_memory.Goals as goal
 
 pub returns-clause-clean : goal.returns-clause-clean

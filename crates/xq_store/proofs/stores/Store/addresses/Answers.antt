@@ -1,5 +1,5 @@
 use Rattle.std.proofs.Common.{◌≡◌, sym, subst, ◌∙◌}
-use Rattle.xq_store.specs.Documents.{IsClean, IsOpen, Map, StandsFor}
+use Rattle.xq_tables.specs.Documents.{IsClean, IsOpen, Map, StandsFor}
 use Rattle.xq_store.proofs.stores.Store.addresses.Goals.{then-shelf, else-shelf}
 use Rattle.xq_store.proofs.Keeping.{alone_clean, alone_open, alone_stands, listed_keys, taken_kept}
 use Rattle.xq_store.proofs.stores.Store.addresses.Goals as goal

@@ -1,9 +1,9 @@
 use Rattle.std.proofs.Common.{◌≢◌, refl, rules, subst}
-use Rattle.xq_store.specs.Labels.{IsStoreSchema}
-use Rattle.xq_store.specs.Tables.{no_schema, IsOldSchema}
+use Rattle.xq_tables.specs.Labels.{IsStoreSchema}
+use Rattle.xq_tables.specs.Tables.{no_schema, IsOldSchema}
 use Rattle.xq_store.proofs.Adopted.{both_open, found_same, found_whole, keeping_adopted, kept_up, known, made_empty, neither, old_emptied, told_none}
-use Rattle.xq_store.proofs.Calls.{was_clean, was_open}
-use Rattle.xq_store.specs.private.Schemas.{AreTables}
+use Rattle.xq_tables.proofs.Calls.{was_clean, was_open}
+use Rattle.xq_tables.specs.Editions.{AreTables}
 use Rattle.xq_store.proofs.stores.Store.adopt.Goals as goal
 
 pub adopt_tables-requires-clause-tables : goal.adopt_tables-requires-clause-tables

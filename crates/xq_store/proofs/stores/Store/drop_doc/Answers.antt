@@ -1,8 +1,8 @@
 use Rattle.std.proofs.Common.{subst, sym}
-use Rattle.xq_store.specs.Documents.{StandsFor}
+use Rattle.xq_tables.specs.Documents.{StandsFor}
 use Rattle.xq_store.specs.private.Keeps.{IsKeeping}
 use Rattle.xq_store.proofs.Keeping.{has_dropped}
-use Rattle.xq_store.proofs.Calls.{on_err, was_clean, was_open, kept_stands, drop_stands, drop_answer, leaves_open}
+use Rattle.xq_tables.proofs.Calls.{on_err, was_clean, was_open, kept_stands, drop_stands, drop_answer, leaves_open}
 use Rattle.xq_store.proofs.stores.Store.drop_doc.Goals as goal
 
 pub returns-in_err-count-clause-kept : goal.returns-in_err-count-clause-kept

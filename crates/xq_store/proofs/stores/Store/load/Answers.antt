@@ -1,5 +1,5 @@
 use Rattle.std.proofs.Common.{Ok}
-use Rattle.xq_store.proofs.Calls.{was_clean, was_open, read_stands, loaded, leaves_open}
+use Rattle.xq_tables.proofs.Calls.{was_clean, was_open, read_stands, loaded, leaves_open}
 use Rattle.xq_store.proofs.stores.Store.load.Goals as goal
 
 pub returns-clause-found : goal.returns-clause-found

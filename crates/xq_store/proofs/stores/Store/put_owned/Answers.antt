@@ -3,9 +3,9 @@ use Rattle.std.specs.List.{enumerate_from}
 use Rattle.xq_trees.specs.Tree.{IsDocument}
 use Rattle.xq_trees.specs.Rows.{placed_rows}
 use Rattle.xq_store.specs.declared.stores.Put.TheVariants.{Replaced, Stored}
-use Rattle.xq_store.specs.Documents.{StandsFor}
-use Rattle.xq_store.proofs.Calls.{on_err, was_clean, was_open, kept_stands, put_stands, put_answer, leaves_open}
-use Rattle.xq_store.proofs.Parts.{few, from_root}
+use Rattle.xq_tables.specs.Documents.{StandsFor}
+use Rattle.xq_tables.proofs.Calls.{on_err, was_clean, was_open, kept_stands, put_stands, put_answer, leaves_open}
+use Rattle.xq_tables.proofs.Parts.{few, from_root}
 use Rattle.xq_store.proofs.Keeping.{has_put, puts_over, roomier}
 use Rattle.xq_store.specs.private.Keeps.{IsKeeping}
 use Rattle.xq_store.proofs.stores.Store.put_owned.Goals as goal

@@ -1,6 +1,6 @@
 use Rattle.std.proofs.Common.{Vec, Global}
 use Rattle.xq_trees.specs.declared.NodeRow.{NodeRow}
-use Rattle.xq_store.proofs.Calls.{was_clean, was_open, read_stands, raised}
+use Rattle.xq_tables.proofs.Calls.{was_clean, was_open, read_stands, raised}
 use Rattle.xq_store.proofs.stores.Store.read_above.Goals as goal
 
 pub returns-clause-found : goal.returns-clause-found

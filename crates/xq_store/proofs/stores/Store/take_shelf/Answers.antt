@@ -1,7 +1,7 @@
 use Rattle.std.proofs.Common.{Result, Ok, Err, IfOk, IsTrue, sym, subst}
 use Rattle.xq_store.specs.declared.shelves.Cache.{Cache}
 use Rattle.xq_store.specs.private.Keeps.{Keeps}
-use Rattle.xq_store.proofs.Calls.{leaves_open, on_ok_clean}
+use Rattle.xq_tables.proofs.Calls.{leaves_open, on_ok_clean}
 use Rattle.xq_store.proofs.Keeping.{taken, taken_anew, taken_own}
 use Rattle.xq_store.proofs.stores.Store.take_shelf.Goals as goal
 

@@ -3,12 +3,12 @@ use Rattle.std.specs.Prelude.{slice_get}
 use Rattle.xq_trees.specs.Rows.{placed, row_at, rows}
 use Rattle.xq_sources.specs.Sources.{HasNode, tree_at as nth_tree}
 use Rattle.xq_trees.specs.Tree.{IsTree}
-use Rattle.xq_store.specs.Documents.{tree_at}
+use Rattle.xq_tables.specs.Documents.{tree_at}
 use Rattle.xq_store.specs.private.Shelves.{front_at, run_of}
 use Rattle.xq_store.specs.Views.{Viewed, trees_under}
 use Rattle.xq_store.proofs.ViewLaws.{began_map, is_its_tree, its_tree, nth_in, popped, stands_now}
 use Rattle.xq_store.proofs.views.ViewRowSource.row.Goals as goal
-use Rattle.xq_store.specs.Labels.{shown_rows}
+use Rattle.xq_tables.specs.Labels.{shown_rows}
 
 pub returns-clause-exists : goal.returns-clause-exists
 returns-clause-exists g c clean =

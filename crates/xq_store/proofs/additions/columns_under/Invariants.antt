@@ -1,8 +1,0 @@
-use Rattle.std.proofs.Common.{◌≡◌, ◌∷◌, take}
-use Rattle.sqlite.specs.Values.{bound}
-use Rattle.sqlite_value.specs.declared.value.Value.TheVariants.{Text}
-use Rattle.xq_store.specs.private.Numbered.{columns_of}
-use Rattle.xq_store.proofs.additions.columns_under.Given as goal
-
-abbrev pub invariant-loop-at : goal.invariant-loop-at
-invariant-loop-at l = bound l.values.items ≡ Text l.address ∷ columns_of (take l.at l.rows) (take l.at l.numbers)

@@ -1,7 +1,0 @@
-use Rattle.std.proofs.Common.{◌≡◌, length}
-use Rattle.xq_store.specs.private.Adopt.{HasJudged}
-use Rattle.xq_store.proofs.Streams.{IsUnderWay}
-use Rattle.xq_store.proofs.judgements.check_runs.Given as goal
-
-abbrev pub invariant-loop-count : goal.invariant-loop-count
-invariant-loop-count g l = (l.rows.conn.ghost_name ≡ l.fn.rows.conn.ghost_name) × IsUnderWay g.S.Store l.fn.rows.conn.now l.rows.conn.now (λ given. HasJudged given l.run × (l.count ≡ length given))

@@ -1,8 +1,0 @@
-use Rattle.std.proofs.Common.{◌≡◌, map, take}
-use Rattle.xq_trees.specs.Rows.{placed}
-use Rattle.xq_store.specs.Nodes.{cells}
-use Rattle.xq_store.specs.private.Columns.{node_of}
-use Rattle.xq_store.proofs.readings.node_rows.Given as goal
-
-abbrev pub invariant-loop-row : goal.invariant-loop-row
-invariant-loop-row l = map cells (map placed l.nodes.items) ≡ map node_of (take l.row-index l.rows)

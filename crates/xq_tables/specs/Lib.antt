@@ -1,0 +1,11 @@
+pub mod Tables
+pub mod Labels
+pub mod Nodes
+pub mod Documents
+pub mod Outside
+pub mod Reads
+pub mod Writes
+pub mod Moves
+pub mod Editions
+pub mod Faults
+pub mod private
