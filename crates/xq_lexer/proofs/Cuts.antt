@@ -6,7 +6,7 @@ use Rattle.std.proofs.lemmas.Str.{encodes-append, length-le-encodes, length-enco
 use Rattle.std.proofs.lemmas.Bool.Decides.{nat_tests}
 use Rattle.xq_lexer.specs.Chars.{Text, is_quote}
 use Rattle.xq_lexer.specs.Reading.{span}
-use Rattle.xq_lexer.specs.Lexeme.{Placed}
+use Rattle.xq_lexer.specs.Lexeme.{Lex}
 use Rattle.xq_lexer.specs.Spelling.{bytes, form_text, Next}
 use Rattle.xq_lexer.specs.private.Lexes.{SpelledAt, BeginsAt}
 use Rattle.xq_lexer.proofs.RunLemmas.{bytes_append}
@@ -56,11 +56,17 @@ spelled_past written place end cs front rest s w e =
     ∙ ap (drop (bytes front)) (s ∙ ap encode_utf8_all (sym w) ∙ encodes-append front rest)
     ∙ drop_at (encode_utf8_all front) (encode_utf8_all rest) (bytes front) refl
 
-pub spelled_next : (written : Text) (place : ℕ) (cs : Text) (t : Placed) (after : Text) → SpelledAt written place cs → Next (place + bytes cs) cs t after → SpelledAt written t.end after
-spelled_next written place cs t after s n =
+-- what the next token leaves stands behind some front
+pub next_suffix : (cs : Text) (t : Lex) (after : Text) → Next cs t after → (front : Text) × (front ++ after ≡ cs)
+next_suffix cs t after n =
     let text = form_text n.form in
     let suffix = skip_suffix cs (text ++ after) n.skipped in
-    spelled_past written place t.end cs (suffix.front ++ text) after s (append_assoc suffix.front text after ∙ suffix.whole) n.end
+    (suffix.front ++ text, append_assoc suffix.front text after ∙ suffix.whole)
+
+pub spelled_next : (written : Text) (place end : ℕ) (cs : Text) (t : Lex) (after : Text) → SpelledAt written place cs → Next cs t after → end + bytes after ≡ place + bytes cs → SpelledAt written end after
+spelled_next written place end cs t after s n e =
+    let suffix = next_suffix cs t after n in
+    spelled_past written place end cs suffix.0 after s suffix.1 e
 
 -- ---- behind a quote
 

@@ -11,7 +11,7 @@ use Rattle.std.proofs.lemmas.Bool.Decides.{nat_tests}
 use Rattle.xq_lexer.specs.declared.tokens.Token.{Token}
 use Rattle.xq_lexer.specs.Chars.{Text}
 use Rattle.xq_lexer.specs.Separators.{skip}
-use Rattle.xq_lexer.specs.Lexeme.{Lex, Placed, place_of, placed}
+use Rattle.xq_lexer.specs.Lexeme.{Lex, lex_of, lexemes}
 use Rattle.xq_lexer.specs.Spelling.{Form, name, prefixed, number, string, symbol, form_text, form_lex, IsForm, Next, Before, Spells, bytes}
 use Rattle.xq_lexer.specs.TokenFaults.{TokenFault, FaultHere, HasFault, RefusesText}
 use Rattle.xq_lexer.specs.Reading.{read_token}
@@ -63,9 +63,8 @@ pub fault_here : (text z : Text) (c : Code) → skip 0 text ≡ Some z → 0 < l
 fault_here text z c s some h = inr (z, s, fault_at z (read_token z) (read_means z some) c h)
 
 -- the token that was read is the next one
-pub next_is : (place : ℕ) (text z : Text) (l : Lex) (rest : Text) (start end : ℕ) → skip 0 text ≡ Some z → WasRead z l rest → start + bytes z ≡ place + bytes text → end + bytes rest ≡ place + bytes text
-    → Next (place + bytes text) text (record { lex = l; start = start; end = end }) rest × (length rest < length text)
-next_is place text z l rest start end s r a b =
+pub next_is : (text z : Text) (l : Lex) (rest : Text) → skip 0 text ≡ Some z → WasRead z l rest → Next text l rest × (length rest < length text)
+next_is text z l rest s r =
     let f = r.found in
     let suffix = skip_suffix text z s in
     let l1 = ap length suffix.whole in
@@ -80,8 +79,6 @@ next_is place text z l rest start end s r a b =
         longest = f.longest;
         stands = f.stands;
         lex = r.stands_for;
-        start = ap (λ (u : Text). start + bytes u) f.whole ∙ a;
-        end = b;
       },
       omega (arith, l1, l2, l3, l4, some),
     )
@@ -89,25 +86,23 @@ next_is place text z l rest start end s r a b =
 -- ---- the loop
 
 pub record Lexed (text : Text) (ts : List Token) (place : ℕ) (rest : Text) : Type 0 where
-  pub before : Before (bytes text) text (placed ts) rest
+  pub before : Before text (lexemes ts) rest
   pub room : place + bytes rest ≡ bytes text
 
 pub none_lexed : (text : Text) → Lexed text [] 0 text
 none_lexed text = record { before = refl; room = omega arith }
 
-pub lexed_more : (text : Text) (ts : List Token) (place : ℕ) (rest : Text) (t : Token) (after : Text) → Lexed text ts place rest → Next (place + bytes rest) rest (place_of t) after → Lexed text (ts ++ t ∷ []) t.end after
-lexed_more text ts place rest t after l n =
-    let n' : Next (bytes text) rest (place_of t) after = subst (λ (total : ℕ). Next total rest (place_of t) after) l.room n in
-    record {
-      before = subst (λ (us : List Placed). Before (bytes text) text us after) (sym (map-append place_of ts (t ∷ []))) (before_more (bytes text) text (placed ts) rest (place_of t) after l.before n');
-      room = n'.end;
-    }
+pub lexed_more : (text : Text) (ts : List Token) (place : ℕ) (rest : Text) (t : Token) (after : Text) (end : ℕ) → Lexed text ts place rest → Next rest (lex_of t) after → end + bytes after ≡ place + bytes rest → Lexed text (ts ++ t ∷ []) end after
+lexed_more text ts place rest t after end l n e = record {
+  before = subst (λ (us : List Lex). Before text us after) (sym (map-append lex_of ts (t ∷ []))) (before_more text (lexemes ts) rest (lex_of t) after l.before n);
+  room = e ∙ l.room;
+}
 
-pub lexed_all : (text : Text) (ts : List Token) (place : ℕ) (rest : Text) → Lexed text ts place rest → skip 0 rest ≡ Some [] → Spells text (placed ts)
+pub lexed_all : (text : Text) (ts : List Token) (place : ℕ) (rest : Text) → Lexed text ts place rest → skip 0 rest ≡ Some [] → Spells text (lexemes ts)
 lexed_all text ts place rest l e = (rest, l.before, e)
 
 pub lexed_fault : (text : Text) (ts : List Token) (place : ℕ) (rest : Text) (c : Code) → Lexed text ts place rest → FaultHere rest c → HasFault text c
-lexed_fault text ts place rest c l f = (placed ts, rest, l.before, f)
+lexed_fault text ts place rest c l f = (lexemes ts, rest, l.before, f)
 
 -- ---- the bytes of what stands before a suffix
 
@@ -121,9 +116,9 @@ passed_is cs rest front e =
     let b3 = bytes_append front rest in
     (omega (arith, l, a), omega (arith, b1, b2, b3))
 
-pub step_fault : (place : ℕ) (text z : Text) (e : Fault) → skip 0 text ≡ Some z → 0 < length z → IsRefusal (lexed (read_token z)) e → Nexts place text (Err e)
-step_fault place text z (OfCode c) s some h = fault_here text z c s some h
-step_fault place text z (OfWant w) s some h = h
+pub step_fault : (text z : Text) (e : Fault) → skip 0 text ≡ Some z → 0 < length z → IsRefusal (lexed (read_token z)) e → Nexts text (Err e)
+step_fault text z (OfCode c) s some h = fault_here text z c s some h
+step_fault text z (OfWant w) s some h = h
 
 pub empty_left : (o : Option Text) (z : Text) → o ≡ Some z → true ≡ (length z == 0) → o ≡ Some []
 empty_left o [] e h = e
@@ -133,23 +128,23 @@ pub some_left : (z : Text) → false ≡ (length z == 0) → 0 < length z
 some_left [] h = absurd cc
 some_left (c ∷ t) h = omega arith
 
-pub lexed_error : (text : Text) (ts : List Token) (place : ℕ) (rest : Text) (e : Fault) → Lexed text ts place rest → Nexts place rest (Err e) → Lexes text (Err e)
+pub lexed_error : (text : Text) (ts : List Token) (place : ℕ) (rest : Text) (e : Fault) → Lexed text ts place rest → Nexts rest (Err e) → Lexes text (Err e)
 lexed_error text ts place rest (OfCode c) l f = lexed_fault text ts place rest c l f
 lexed_error text ts place rest (OfWant w) l f = f
 
 abbrev Answer : Type 0
 Answer = Result (Vec Token Global) Fault
 
-pub lexes_spelled : (text : Text) (r : Answer) → Lexes text r → IfOk r (λ v. Spells text (placed v.items))
+pub lexes_spelled : (text : Text) (r : Answer) → Lexes text r → IfOk r (λ v. Spells text (lexemes v.items))
 lexes_spelled text (Ok v) h = h
 lexes_spelled text (Err e) h = tt
 
-pub lexes_only : (text : Text) (r : Answer) → Lexes text r → IfOk r (λ v. (other : List Placed) → Spells text other → other ≡ placed v.items)
-lexes_only text (Ok v) h = λ other k. spells_one text (placed v.items) other h k
+pub lexes_only : (text : Text) (r : Answer) → Lexes text r → IfOk r (λ v. (other : List Lex) → Spells text other → other ≡ lexemes v.items)
+lexes_only text (Ok v) h = λ other k. spells_one text (lexemes v.items) other h k
 lexes_only text (Err e) h = tt
 
 pub lexes_sound : (text : Text) (r : Answer) → Lexes text r → IfOk r (λ v. (code : Code) → HasFault text code → ⊥)
-lexes_sound text (Ok v) h = λ code k. spells_no_fault text (placed v.items) code h k
+lexes_sound text (Ok v) h = λ code k. spells_no_fault text (lexemes v.items) code h k
 lexes_sound text (Err e) h = tt
 
 pub lexes_refused : (text : Text) (r : Answer) → Lexes text r → IfErr r (λ e. RefusesText text e)

@@ -1,8 +1,7 @@
 -- Tokens as the definitions see them: a text by its bytes, a decimal by its millionths.
 use Rattle.std.specs.Prelude.{ℕ, ℤ, List, map, string_bytes}
 use Rattle.xq_lexer.specs.declared.tokens.Token.{Token}
-use Rattle.xq_lexer.specs.declared.tokens.Lexeme.{Lexeme}
-use Rattle.xq_lexer.specs.declared.tokens.Lexeme.TheVariants.{Name, Prefixed, Int, Dec, Str, Sym}
+use Rattle.xq_lexer.specs.declared.tokens.Token.TheVariants.{Name, Prefixed, Int, Dec, Str, Sym}
 use Rattle.xq_lexer.specs.declared.tokens.Symbol.{Symbol}
 
 -- what a token is
@@ -15,7 +14,7 @@ pub data Lex : Type 0 where
   symbol : Symbol → Lex
 
 -- what a token of the program is
-abbrev pub lex_of : Lexeme → Lex
+abbrev pub lex_of : Token → Lex
 lex_of (Name n) = name (string_bytes n)
 lex_of (Prefixed p n) = prefixed (string_bytes p) (string_bytes n)
 lex_of (Int i) = int i
@@ -23,20 +22,6 @@ lex_of (Dec m) = dec m
 lex_of (Str s) = str (string_bytes s)
 lex_of (Sym s) = symbol s
 
--- what each of the tokens is, without its place
+-- what each of the tokens is
 abbrev pub lexemes : List Token → List Lex
-lexemes ts = map (λ t. lex_of t.lexeme) ts
-
--- a token with its place, in bytes
-pub record Placed : Type 0 where
-  pub lex : Lex
-  pub start : ℕ
-  pub end : ℕ
-
--- a token of the program, with its place
-abbrev pub place_of : Token → Placed
-place_of t = record { lex = lex_of t.lexeme; start = t.start; end = t.end }
-
--- each of the tokens, with its place
-abbrev pub placed : List Token → List Placed
-placed ts = map place_of ts
+lexemes ts = map lex_of ts

@@ -6,7 +6,7 @@ use Rattle.xq_atoms.specs.Literal.{millionths}
 use Rattle.xq_lexer.specs.declared.tokens.Symbol.{Symbol}
 use Rattle.xq_lexer.specs.declared.tokens.Symbol.TheVariants as s
 use Rattle.xq_lexer.specs.Lexeme as l
-use Rattle.xq_lexer.specs.Lexeme.{Lex, Placed}
+use Rattle.xq_lexer.specs.Lexeme.{Lex}
 use Rattle.xq_atoms.specs.Characters.{is_name}
 use Rattle.xq_lexer.specs.Chars.{Text, is_quote, begins}
 use Rattle.xq_lexer.specs.Separators.{skip}
@@ -98,25 +98,20 @@ MayStand _ after = Unit {0}
 abbrev pub bytes : Text → ℕ
 bytes w = length (encode_utf8_all w)
 
--- From text, of whose whole so many bytes are left where it ends, the token t is next, and after is
--- what follows it: the bytes before t.start, those of the token and those after t.end are all bytes
--- of the whole.
-pub record Next (total : ℕ) (text : Text) (t : Placed) (after : Text) : Type 0 where
+-- in the text the token t is next, and after is what follows it
+pub record Next (text : Text) (t : Lex) (after : Text) : Type 0 where
   pub form : Form
   pub skipped : skip 0 text ≡ Some (form_text form ++ after)
   pub is_form : IsForm form
   pub longest : IsLongest form after
   pub stands : MayStand form after
-  pub lex : t.lex ≡ form_lex form
-  pub start : t.start + bytes (form_text form ++ after) ≡ total
-  pub end : t.end + bytes after ≡ total
+  pub lex : t ≡ form_lex form
 
 -- the tokens up to some place, and the text that is left there
-abbrev pub Before : ℕ → Text → List Placed → Text → Type 0
-Before total text [] rest = text ≡ rest
-Before total text (t ∷ ts) rest = (after : Text) × Next total text t after
-    × Before total after ts rest
+abbrev pub Before : Text → List Lex → Text → Type 0
+Before text [] rest = text ≡ rest
+Before text (t ∷ ts) rest = (after : Text) × Next text t after × Before after ts rest
 
--- these tokens, in their places, and separators between them, are the text
-abbrev pub Spells : Text → List Placed → Type 0
-Spells text ts = (rest : Text) × Before (bytes text) text ts rest × (skip 0 rest ≡ Some [])
+-- these tokens, and separators between them, are the text
+abbrev pub Spells : Text → List Lex → Type 0
+Spells text ts = (rest : Text) × Before text ts rest × (skip 0 rest ≡ Some [])

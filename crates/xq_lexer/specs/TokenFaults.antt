@@ -5,12 +5,12 @@ use Rattle.xq_atoms.specs.declared.refusals.Code.TheVariants.{XPST0003, XQST0090
 use Rattle.xq_atoms.specs.declared.refusals.Fault.{Fault}
 use Rattle.xq_atoms.specs.declared.refusals.Fault.TheVariants.{Code as OfCode, Want as OfWant}
 use Rattle.xq_atoms.specs.declared.refusals.Want.TheVariants.{Memory}
-use Rattle.xq_lexer.specs.Lexeme.{Placed}
+use Rattle.xq_lexer.specs.Lexeme.{Lex}
 use Rattle.xq_atoms.specs.Characters.{is_char}
 use Rattle.xq_lexer.specs.Chars.{Text, is_quote, begins}
 use Rattle.xq_lexer.specs.Separators.{skip}
 use Rattle.xq_lexer.specs.Literals.{Number, number_text, IsNumber, number_fault, Reference, reference_text, IsReference, referred, Piece, ArePieces, content_text}
-use Rattle.xq_lexer.specs.Spelling.{Form, number, form_text, IsForm, IsLongest, Before, Spells, bytes}
+use Rattle.xq_lexer.specs.Spelling.{Form, number, form_text, IsForm, IsLongest, Before, Spells}
 
 -- a reference that stands for no character
 pub record RefersToNone (rest : Text) : Type 0 where
@@ -71,12 +71,11 @@ FaultHere text code =
 
 -- after some tokens there is a fault, the first one of the text
 abbrev pub HasFault : Text → Code → Type 0
-HasFault text code = (ts : List Placed) × (rest : Text) × Before (bytes text) text ts rest
-    × FaultHere rest code
+HasFault text code = (ts : List Lex) × (rest : Text) × Before text ts rest × FaultHere rest code
 
 -- the text is refused: for its fault, and then no list is spelled and no fault has another code; or
 -- for want of memory
 abbrev pub RefusesText : Text → Fault → Type 0
-RefusesText text (OfCode code) = HasFault text code × ((ts : List Placed) → Spells text ts → ⊥)
+RefusesText text (OfCode code) = HasFault text code × ((ts : List Lex) → Spells text ts → ⊥)
     × ((other : Code) → HasFault text other → other ≡ code)
 RefusesText text (OfWant want) = want ≡ Memory

@@ -4,7 +4,7 @@ ghost use Rattle.xq_lexer.specs.Lexeme.{lexemes};
 ghost use Rattle.xq_lexer.specs.Nesting as spec;
 ghost use Rattle.xq_lexer.specs.private.Changes.{first_change as first_change_lem};
 
-use crate::tokens::{Lexeme, Symbol, Token};
+use crate::tokens::{Symbol, Token};
 
 /// The deepest nesting of a query.
 pub const MAX_NESTING: u8 = 128;
@@ -62,12 +62,9 @@ fn first_change(tokens: &[Token]) -> Change
     ensures { result ≡ first_change_lem (lexemes tokens.now) }
 {
     match tokens {
-        [first, rest @ ..] => match &first.lexeme {
-            Lexeme::Name(name) => name_change(name.as_str(), rest),
-            Lexeme::Sym(symbol) => symbol_change(*symbol),
-            _ => Change::Keeps,
-        },
-        [] => Change::Keeps,
+        [Token::Name(name), rest @ ..] => name_change(name.as_str(), rest),
+        [Token::Sym(symbol), ..] => symbol_change(*symbol),
+        _ => Change::Keeps,
     }
 }
 
@@ -87,20 +84,8 @@ fn name_change(name: &str, rest: &[Token]) -> Change
     ensures { result ≡ spec.name_change name.now (lexemes rest.now) }
 {
     match rest {
-        [
-            Token {
-                lexeme: Lexeme::Sym(Symbol::Dollar),
-                ..
-            },
-            ..
-        ] if is_binder(name) => Change::Deepens,
-        [
-            Token {
-                lexeme: Lexeme::Sym(Symbol::OpenParenthesis),
-                ..
-            },
-            ..
-        ] if name == "if" => Change::Deepens,
+        [Token::Sym(Symbol::Dollar), ..] if is_binder(name) => Change::Deepens,
+        [Token::Sym(Symbol::OpenParenthesis), ..] if name == "if" => Change::Deepens,
         _ => Change::Keeps,
     }
 }

@@ -7,7 +7,7 @@ ghost use Rattle.xq_atoms.specs.declared.refusals.Want.TheVariants.{Memory as Wa
 ghost use Rattle.xq_lexer.specs.Chars.{Text};
 ghost use Rattle.xq_atoms.specs.Answers.{Gives};
 ghost use Rattle.xq_lexer.specs.private.Lexes.{GivesAlways, Lexes, Nexts, SpelledAt, lexed};
-ghost use Rattle.xq_lexer.specs.Lexeme.{Placed, lex_of, placed};
+ghost use Rattle.xq_lexer.specs.Lexeme.{Lex, lex_of, lexemes};
 ghost use Rattle.xq_lexer.specs.Reading as spec;
 ghost use Rattle.xq_lexer.specs.Spelling.{Spells, bytes as bytes_of};
 ghost use Rattle.xq_lexer.specs.TokenFaults.{HasFault, RefusesText};
@@ -19,17 +19,16 @@ use crate::runs::bytes;
 use crate::separators::skip;
 use crate::strings::string;
 use crate::symbols::{double_symbol, single_symbol};
-use crate::tokens::{Lexeme, Token};
+use crate::tokens::Token;
 use std::alloc::{AllocError, Global};
 use xq_atoms::{Code, Fault, is_name_start};
 
-/// The tokens that the text spells, with their places in bytes (XQuery 3.1, appendix A.2). Else
-/// the code of its first fault: XPST0003, XQST0090, prof:DOUBLE, prof:DIGITS or FOAR0002; or want
-/// of memory.
+/// The tokens that the text spells (XQuery 3.1, appendix A.2). Else the code of its first fault:
+/// XPST0003, XQST0090, prof:DOUBLE, prof:DIGITS or FOAR0002; or want of memory.
 pub fn lex(alloc: Global, text: &str) -> Result<Vec<Token>, Fault>
-    ensures spelled { IfOk result (λ tokens. Spells (chars_of text.now) (placed tokens.items)) }
-    ensures only { IfOk result (λ tokens. (other : List Placed) → Spells (chars_of text.now) other
-        → other ≡ placed tokens.items) }
+    ensures spelled { IfOk result (λ tokens. Spells (chars_of text.now) (lexemes tokens.items)) }
+    ensures only { IfOk result (λ tokens. (other : List Lex) → Spells (chars_of text.now) other
+        → other ≡ lexemes tokens.items) }
     ensures sound { IfOk result (λ _. (code : FaultCode) → HasFault (chars_of text.now) code → ⊥) }
     ensures refused { IfErr result (λ fault. RefusesText (chars_of text.now) fault) }
 {
@@ -44,7 +43,7 @@ fn chars(alloc: Global, text: &str) -> Result<Vec<char>, Fault>
     ensures short { IfOk result (λ chars. bytes_of chars.items < 2 ^ 64) }
     ensures want { IfErr result (λ fault. fault ≡ FaultWant WantMemory) }
 {
-    // A text's length is a `usize`, so the places of its tokens are.
+    // A text's length is a `usize`, so the places in it are.
     let _bytes = text.len();
     let chars = if text.is_ascii() {
         narrow_chars(alloc, text.as_bytes())?
@@ -85,7 +84,7 @@ fn tokens(alloc: Global, text: &str, chars: &[char]) -> Result<Vec<Token>, Fault
     let mut place = 0;
     let mut rest = chars;
     while let Some((token, after)) = next(alloc, text, place, rest)? {
-        place = token.end;
+        place += passed(rest, after);
         rest = after;
         tokens.push(token)?;
     }
@@ -102,16 +101,15 @@ fn next<'a>(
 ) -> Result<Option<(Token, &'a [char])>, Fault>
     requires short { place + bytes_of chars.now < 2 ^ 64 }
     requires spelled { SpelledAt text.now place chars.now }
-    ensures { Nexts place chars.now result }
+    ensures { Nexts chars.now result }
 {
     let begun = skip(chars)?;
     if begun.is_empty() {
         return Ok(None);
     }
     let start = place + passed(chars, begun);
-    let (lexeme, rest) = token(alloc, text, start, begun)?;
-    let end = start + passed(begun, rest);
-    Ok(Some((Token { lexeme, start, end }, rest)))
+    let (token, rest) = token(alloc, text, start, begun)?;
+    Ok(Some((token, rest)))
 }
 
 /// How many bytes spell the characters that stand before what is left.
@@ -131,7 +129,7 @@ fn token<'a>(
     text: &str,
     place: usize,
     chars: &'a [char],
-) -> Result<(Lexeme, &'a [char]), Fault>
+) -> Result<(Token, &'a [char]), Fault>
     requires short { place + bytes_of chars.now < 2 ^ 64 }
     requires spelled { SpelledAt text.now place chars.now }
     ensures { Gives (λ x. (lex_of x.0, x.1.now)) (lexed (spec.read_token chars.now)) result }
@@ -154,18 +152,18 @@ fn token<'a>(
 
 /// The symbol at the front, and what is left behind it.
 #[tactic(auto, unfolding(crate::specs::Reading::read_symbol))]
-fn symbol(chars: &[char]) -> Result<(Lexeme, &[char]), Code>
+fn symbol(chars: &[char]) -> Result<(Token, &[char]), Code>
     ensures { GivesAlways (λ x. (lex_of x.0, x.1.now)) (lexed (spec.read_symbol chars.now)) result }
 {
     if let [a, b, rest @ ..] = chars {
         if let Some(symbol) = double_symbol(*a, *b) {
-            return Ok((Lexeme::Sym(symbol), rest));
+            return Ok((Token::Sym(symbol), rest));
         }
     }
     match chars {
         [] => Err(Code::XPST0003),
         [a, rest @ ..] => match single_symbol(*a) {
-            Some(symbol) => Ok((Lexeme::Sym(symbol), rest)),
+            Some(symbol) => Ok((Token::Sym(symbol), rest)),
             None => Err(Code::XPST0003),
         },
     }

@@ -14,4 +14,4 @@ mod tokens;
 
 pub use depth::{MAX_NESTING, nesting};
 pub use lexing::lex;
-pub use tokens::{Lexeme, Symbol, Token};
+pub use tokens::{Symbol, Token};

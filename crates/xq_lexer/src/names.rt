@@ -7,7 +7,7 @@ ghost use Rattle.xq_lexer.specs.Reading as spec;
 ghost use Rattle.xq_lexer.specs.Spelling.{bytes as bytes_of};
 
 use crate::runs::{Class, cut, run, text};
-use crate::tokens::Lexeme;
+use crate::tokens::Token;
 use std::alloc::Global;
 use xq_atoms::{Fault, is_name_start};
 
@@ -19,7 +19,7 @@ pub fn name<'a>(
     written: &str,
     place: usize,
     chars: &'a [char],
-) -> Result<(Lexeme, &'a [char]), Fault>
+) -> Result<(Token, &'a [char]), Fault>
     requires short { place + bytes_of chars.now < 2 ^ 64 }
     requires spelled { SpelledAt written.now place chars.now }
     ensures { Gives (λ x. (lex_of x.0, x.1.now)) (lexed (Ok (spec.read_name chars.now))) result }
@@ -30,8 +30,8 @@ pub fn name<'a>(
             let (local, rest) = run(Class::Name, &rest[1..]);
             let prefix = text(alloc, first)?;
             let local = text(alloc, local)?;
-            Ok((Lexeme::Prefixed { prefix, local }, rest))
+            Ok((Token::Prefixed { prefix, local }, rest))
         }
-        _ => Ok((Lexeme::Name(cut(alloc, written, place, first)?), rest)),
+        _ => Ok((Token::Name(cut(alloc, written, place, first)?), rest)),
     }
 }

@@ -14,7 +14,7 @@ ghost use Rattle.xq_lexer.specs.Reading as spec;
 ghost use Rattle.xq_lexer.specs.Spelling.{bytes as bytes_of};
 
 use crate::runs::{Class, piece, run, text};
-use crate::tokens::Lexeme;
+use crate::tokens::Token;
 use std::alloc::Global;
 use xq_atoms::{Code, Fault, dec_literal, int_literal, is_digit, is_name_start};
 
@@ -35,7 +35,7 @@ pub fn number<'a>(
     written: &str,
     place: usize,
     chars: &'a [char],
-) -> Result<(Lexeme, &'a [char]), Fault>
+) -> Result<(Token, &'a [char]), Fault>
     requires begun { spec.begins_number chars.now ≡ true }
     requires short { place + bytes_of chars.now < 2 ^ 64 }
     requires spelled { SpelledAt written.now place chars.now }
@@ -57,7 +57,7 @@ fn read(
     place: usize,
     has_point: bool,
     literal: &[char],
-) -> Result<Lexeme, Fault>
+) -> Result<Token, Fault>
     requires short { bytes_of literal.now < 2 ^ 64 }
     requires spelled { BeginsAt written.now place literal.now }
     requires whole { OnFalse has_point (IsTrue (is_whole (encode_utf8_all literal.now))) }
@@ -89,15 +89,15 @@ fn digits(chars: &[char]) -> (bool, &[char])
 }
 
 /// What a literal stands for.
-fn valued(has_point: bool, literal: &str) -> Result<Lexeme, Code>
+fn valued(has_point: bool, literal: &str) -> Result<Token, Code>
     requires whole { OnFalse has_point (IsTrue (is_whole literal.now)) }
     requires number { OnTrue has_point (IsTrue (is_number literal.now)) }
     ensures { GivesAlways lex_of (valued_lex has_point literal.now) result }
 {
     if has_point {
-        Ok(Lexeme::Dec(dec_literal(literal)?))
+        Ok(Token::Dec(dec_literal(literal)?))
     } else {
-        Ok(Lexeme::Int(int_literal(literal)?))
+        Ok(Token::Int(int_literal(literal)?))
     }
 }
 

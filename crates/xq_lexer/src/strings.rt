@@ -9,7 +9,7 @@ ghost use Rattle.xq_lexer.specs.Reading as spec;
 ghost use Rattle.xq_lexer.specs.Spelling.{bytes as bytes_of};
 
 use crate::runs::{Class, append, cut, run};
-use crate::tokens::Lexeme;
+use crate::tokens::Token;
 use std::alloc::Global;
 use xq_atoms::{Code, Fault, is_char, is_digit};
 
@@ -25,7 +25,7 @@ pub fn string<'a>(
     place: usize,
     quote: char,
     chars: &'a [char],
-) -> Result<(Lexeme, &'a [char]), Fault>
+) -> Result<(Token, &'a [char]), Fault>
     requires quote { chars_spec.is_quote quote ≡ true }
     requires short { place + bytes_of (quote ∷ chars.now) < 2 ^ 64 }
     requires spelled { SpelledAt written.now place (quote ∷ chars.now) }
@@ -42,7 +42,7 @@ pub fn string<'a>(
                 append(&mut text, plain)?;
                 rest = special;
             }
-            (None, after) => return Ok((Lexeme::Str(text), after)),
+            (None, after) => return Ok((Token::Str(text), after)),
         }
     }
 }

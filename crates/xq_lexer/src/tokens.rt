@@ -2,17 +2,9 @@
 
 use xq_atoms::Decimal;
 
-/// A token with its place in the text: the bytes from `start` up to `end` spell its lexeme.
-#[derive(Debug, Drop)]
-pub struct Token {
-    pub lexeme: Lexeme,
-    pub start: usize,
-    pub end: usize,
-}
-
 /// What a token is (XQuery 3.1, appendix A.2, in this profile).
 #[derive(Debug, Drop)]
-pub enum Lexeme {
+pub enum Token {
     /// A name without a colon.
     Name(String),
     /// Two names with a colon between them.

@@ -8,7 +8,7 @@ use Rattle.xq_lexer.specs.contracts.tokens.Symbol.{the_type}
 use Rattle.xq_lexer.specs.declared.tokens.Symbol.{Symbol}
 use Rattle.xq_lexer.specs.declared.tokens.Symbol.TheVariants as s
 
--- tokens without their places
+-- tokens, as the definitions see them
 abbrev pub Tokens : Type 0
 Tokens = List Lex
 

@@ -14,7 +14,7 @@ use crate::words::{
 use std::alloc::Global;
 use xq_atoms::{Code, Fault};
 use xq_expressions::{QName, Text};
-use xq_lexer::{Lexeme, Symbol, Token};
+use xq_lexer::{Symbol, Token};
 
 #[tactic(auto, unfolding(crate::specs::Look::same_symbol))]
 fn same_symbol(a: Symbol, b: Symbol) -> bool
@@ -29,13 +29,7 @@ pub(crate) fn is_symbol(symbol: Symbol, tokens: &[Token]) -> bool
     ensures { result ≡ spec.is (symbol_lex symbol) (lexemes tokens.now) }
 {
     match tokens {
-        [
-            Token {
-                lexeme: Lexeme::Sym(next),
-                ..
-            },
-            ..
-        ] => same_symbol(*next, symbol),
+        [Token::Sym(next), ..] => same_symbol(*next, symbol),
         _ => false,
     }
 }
@@ -46,13 +40,7 @@ pub(crate) fn is_word(word: &str, tokens: &[Token]) -> bool
     ensures { result ≡ spec.is (name_lex word.now) (lexemes tokens.now) }
 {
     match tokens {
-        [
-            Token {
-                lexeme: Lexeme::Name(name),
-                ..
-            },
-            ..
-        ] => name.as_str() == word,
+        [Token::Name(name), ..] => name.as_str() == word,
         _ => false,
     }
 }
@@ -64,13 +52,7 @@ pub(crate) fn expect_symbol(symbol: Symbol, tokens: &[Token]) -> Result<&[Token]
         (spec.expect (symbol_lex symbol) (lexemes tokens.now)) }
 {
     match tokens {
-        [
-            Token {
-                lexeme: Lexeme::Sym(next),
-                ..
-            },
-            rest @ ..,
-        ] => {
+        [Token::Sym(next), rest @ ..] => {
             if same_symbol(*next, symbol) {
                 Ok(rest)
             } else {
@@ -88,13 +70,7 @@ pub(crate) fn expect_word<'a>(word: &str, tokens: &'a [Token]) -> Result<&'a [To
         (spec.expect (name_lex word.now) (lexemes tokens.now)) }
 {
     match tokens {
-        [
-            Token {
-                lexeme: Lexeme::Name(name),
-                ..
-            },
-            rest @ ..,
-        ] => {
+        [Token::Name(name), rest @ ..] => {
             if name.as_str() == word {
                 Ok(rest)
             } else {
@@ -110,13 +86,7 @@ pub(crate) fn ncname(alloc: Global, tokens: &[Token]) -> Result<(Text, &[Token])
     ensures { Parses result (spec.nc (lexemes tokens.now)) }
 {
     match tokens {
-        [
-            Token {
-                lexeme: Lexeme::Name(name),
-                ..
-            },
-            rest @ ..,
-        ] => { Ok((Text::copy_of(alloc, name.as_str())?, rest)) }
+        [Token::Name(name), rest @ ..] => { Ok((Text::copy_of(alloc, name.as_str())?, rest)) }
         _ => Err(Fault::Code(Code::XPST0003)),
     }
 }
@@ -136,13 +106,7 @@ pub(crate) fn qname(alloc: Global, tokens: &[Token]) -> Result<(QName, &[Token])
     ensures { Parses result (spec.qname (lexemes tokens.now)) }
 {
     match tokens {
-        [
-            Token {
-                lexeme: Lexeme::Name(name),
-                ..
-            },
-            rest @ ..,
-        ] => {
+        [Token::Name(name), rest @ ..] => {
             let local = Text::copy_of(alloc, name.as_str())?;
             Ok((
                 QName {
@@ -152,13 +116,9 @@ pub(crate) fn qname(alloc: Global, tokens: &[Token]) -> Result<(QName, &[Token])
                 rest,
             ))
         }
-        [
-            Token {
-                lexeme: Lexeme::Prefixed { prefix, local },
-                ..
-            },
-            rest @ ..,
-        ] => { Ok((prefixed(alloc, prefix.as_str(), local.as_str())?, rest)) }
+        [Token::Prefixed { prefix, local }, rest @ ..] => {
+            Ok((prefixed(alloc, prefix.as_str(), local.as_str())?, rest))
+        }
         _ => Err(Fault::Code(Code::XPST0003)),
     }
 }
@@ -169,25 +129,13 @@ pub(crate) fn call_name(alloc: Global, tokens: &[Token]) -> Result<(QName, &[Tok
     ensures { Parses result (spec.call_name (lexemes tokens.now)) }
 {
     match tokens {
-        [
-            Token {
-                lexeme: Lexeme::Name(name),
-                ..
-            },
-            ..
-        ] => {
+        [Token::Name(name), ..] => {
             if is_reserved_name(name.as_str()) {
                 return Err(Fault::Code(Code::XPST0003));
             }
             qname(alloc, tokens)
         }
-        [
-            Token {
-                lexeme: Lexeme::Prefixed { .. },
-                ..
-            },
-            ..
-        ] => qname(alloc, tokens),
+        [Token::Prefixed { .. }, ..] => qname(alloc, tokens),
         _ => Err(Fault::Code(Code::XPST0003)),
     }
 }
@@ -219,48 +167,21 @@ pub(crate) fn position(alloc: Global, tokens: &[Token]) -> Result<(Option<QName>
 pub(crate) fn begins_nc(tokens: &[Token]) -> bool
     ensures { result ≡ spec.begins_nc (lexemes tokens.now) }
 {
-    matches!(
-        tokens,
-        [
-            Token {
-                lexeme: Lexeme::Name(_),
-                ..
-            },
-            ..
-        ]
-    )
+    matches!(tokens, [Token::Name(_), ..])
 }
 
 /// Whether the next token is a name.
 pub(crate) fn begins_name(tokens: &[Token]) -> bool
     ensures { result ≡ spec.begins_name (lexemes tokens.now) }
 {
-    matches!(
-        tokens,
-        [
-            Token {
-                lexeme: Lexeme::Name(_) | Lexeme::Prefixed { .. },
-                ..
-            },
-            ..
-        ]
-    )
+    matches!(tokens, [Token::Name(_) | Token::Prefixed { .. }, ..])
 }
 
 /// Whether the next token is `{`.
 fn begins_brace(tokens: &[Token]) -> bool
     ensures { result ≡ spec.begins_brace (lexemes tokens.now) }
 {
-    matches!(
-        tokens,
-        [
-            Token {
-                lexeme: Lexeme::Sym(Symbol::OpenBrace),
-                ..
-            },
-            ..
-        ]
-    )
+    matches!(tokens, [Token::Sym(Symbol::OpenBrace), ..])
 }
 
 /// Whether the next token is a name that no `(` follows.
@@ -268,24 +189,8 @@ pub(crate) fn begins_name_test(tokens: &[Token]) -> bool
     ensures { result ≡ spec.begins_name_test (lexemes tokens.now) }
 {
     match tokens {
-        [
-            Token {
-                lexeme: Lexeme::Name(_),
-                ..
-            },
-            Token {
-                lexeme: Lexeme::Sym(Symbol::OpenParenthesis),
-                ..
-            },
-            ..
-        ] => false,
-        [
-            Token {
-                lexeme: Lexeme::Name(_) | Lexeme::Prefixed { .. },
-                ..
-            },
-            ..
-        ] => true,
+        [Token::Name(_), Token::Sym(Symbol::OpenParenthesis), ..] => false,
+        [Token::Name(_) | Token::Prefixed { .. }, ..] => true,
         _ => false,
     }
 }
@@ -296,17 +201,7 @@ pub(crate) fn begins_axis(tokens: &[Token]) -> bool
 {
     matches!(
         tokens,
-        [
-            Token {
-                lexeme: Lexeme::Name(_),
-                ..
-            },
-            Token {
-                lexeme: Lexeme::Sym(Symbol::DoubleColon),
-                ..
-            },
-            ..
-        ]
+        [Token::Name(_), Token::Sym(Symbol::DoubleColon), ..]
     )
 }
 
@@ -316,26 +211,12 @@ pub(crate) fn begins_call(tokens: &[Token]) -> bool
     ensures { result ≡ spec.begins_call (lexemes tokens.now) }
 {
     match tokens {
+        [Token::Name(name), Token::Sym(Symbol::OpenParenthesis), ..] => {
+            !is_reserved_name(name.as_str())
+        }
         [
-            Token {
-                lexeme: Lexeme::Name(name),
-                ..
-            },
-            Token {
-                lexeme: Lexeme::Sym(Symbol::OpenParenthesis),
-                ..
-            },
-            ..
-        ] => { !is_reserved_name(name.as_str()) }
-        [
-            Token {
-                lexeme: Lexeme::Prefixed { .. },
-                ..
-            },
-            Token {
-                lexeme: Lexeme::Sym(Symbol::OpenParenthesis),
-                ..
-            },
+            Token::Prefixed { .. },
+            Token::Sym(Symbol::OpenParenthesis),
             ..
         ] => true,
         _ => false,
@@ -347,27 +228,11 @@ fn is_constructor(word: &str, tokens: &[Token]) -> bool
     ensures { result ≡ spec.makes word.now (lexemes tokens.now) }
 {
     match tokens {
-        [
-            Token {
-                lexeme: Lexeme::Sym(Symbol::OpenBrace),
-                ..
-            },
-            ..
-        ] => is_constructor_word(word),
-        [
-            Token {
-                lexeme: Lexeme::Name(_),
-                ..
-            },
-            rest @ ..,
-        ] => begins_brace(rest) && is_named_constructor_word(word),
-        [
-            Token {
-                lexeme: Lexeme::Prefixed { .. },
-                ..
-            },
-            rest @ ..,
-        ] => { begins_brace(rest) && named_node_word(word).is_some() }
+        [Token::Sym(Symbol::OpenBrace), ..] => is_constructor_word(word),
+        [Token::Name(_), rest @ ..] => begins_brace(rest) && is_named_constructor_word(word),
+        [Token::Prefixed { .. }, rest @ ..] => {
+            begins_brace(rest) && named_node_word(word).is_some()
+        }
         _ => false,
     }
 }
@@ -378,13 +243,7 @@ pub(crate) fn begins_constructor(tokens: &[Token]) -> bool
     ensures { result ≡ spec.begins_make (lexemes tokens.now) }
 {
     match tokens {
-        [
-            Token {
-                lexeme: Lexeme::Name(name),
-                ..
-            },
-            rest @ ..,
-        ] => is_constructor(name.as_str(), rest),
+        [Token::Name(name), rest @ ..] => is_constructor(name.as_str(), rest),
         _ => false,
     }
 }
@@ -395,18 +254,9 @@ fn begins_literal(tokens: &[Token]) -> bool
     ensures { result ≡ spec.begins_literal (lexemes tokens.now) }
 {
     match tokens {
+        [Token::Int(_) | Token::Dec(_) | Token::Str(_), ..] => true,
         [
-            Token {
-                lexeme: Lexeme::Int(_) | Lexeme::Dec(_) | Lexeme::Str(_),
-                ..
-            },
-            ..
-        ] => true,
-        [
-            Token {
-                lexeme: Lexeme::Sym(Symbol::Dollar | Symbol::OpenParenthesis | Symbol::Dot),
-                ..
-            },
+            Token::Sym(Symbol::Dollar | Symbol::OpenParenthesis | Symbol::Dot),
             ..
         ] => true,
         _ => false,
@@ -421,19 +271,13 @@ pub(crate) fn is_alone(tokens: &[Token]) -> bool
 {
     match tokens {
         [
-            Token {
-                lexeme: Lexeme::Int(_) | Lexeme::Dec(_) | Lexeme::Str(_),
-                ..
-            },
-            Token {
-                lexeme: Lexeme::Sym(
-                    Symbol::Comma
-                    | Symbol::CloseParenthesis
-                    | Symbol::CloseBracket
-                    | Symbol::CloseBrace,
-                ),
-                ..
-            },
+            Token::Int(_) | Token::Dec(_) | Token::Str(_),
+            Token::Sym(
+                Symbol::Comma
+                | Symbol::CloseParenthesis
+                | Symbol::CloseBracket
+                | Symbol::CloseBrace,
+            ),
             ..
         ] => true,
         _ => false,
@@ -446,13 +290,7 @@ pub(crate) fn ends_expression(tokens: &[Token]) -> bool
     ensures { result ≡ begins_end (lexemes tokens.now) }
 {
     match tokens {
-        [
-            Token {
-                lexeme: Lexeme::Sym(symbol),
-                ..
-            },
-            ..
-        ] => ends(*symbol),
+        [Token::Sym(symbol), ..] => ends(*symbol),
         _ => false,
     }
 }
@@ -481,13 +319,7 @@ fn begins_step(tokens: &[Token]) -> bool
 {
     match tokens {
         [] => false,
-        [
-            Token {
-                lexeme: Lexeme::Sym(symbol),
-                ..
-            },
-            ..
-        ] => matches!(
+        [Token::Sym(symbol), ..] => matches!(
             symbol,
             Symbol::Dollar
                 | Symbol::OpenParenthesis
@@ -506,13 +338,7 @@ pub(crate) fn begins_lone(tokens: &[Token]) -> bool
     ensures { result ≡ spec.begins_lone (lexemes tokens.now) }
 {
     match tokens {
-        [
-            Token {
-                lexeme: Lexeme::Sym(Symbol::Slash),
-                ..
-            },
-            rest @ ..,
-        ] => !begins_step(rest),
+        [Token::Sym(Symbol::Slash), rest @ ..] => !begins_step(rest),
         _ => false,
     }
 }
@@ -523,17 +349,9 @@ pub(crate) fn begins_flwor(tokens: &[Token]) -> bool
     ensures { result ≡ spec.begins_flwor (lexemes tokens.now) }
 {
     match tokens {
-        [
-            Token {
-                lexeme: Lexeme::Name(name),
-                ..
-            },
-            Token {
-                lexeme: Lexeme::Sym(Symbol::Dollar),
-                ..
-            },
-            ..
-        ] => { name.as_str() == "for" || name.as_str() == "let" }
+        [Token::Name(name), Token::Sym(Symbol::Dollar), ..] => {
+            name.as_str() == "for" || name.as_str() == "let"
+        }
         _ => false,
     }
 }
@@ -544,17 +362,9 @@ pub(crate) fn begins_quantified(tokens: &[Token]) -> bool
     ensures { result ≡ spec.begins_quantified (lexemes tokens.now) }
 {
     match tokens {
-        [
-            Token {
-                lexeme: Lexeme::Name(name),
-                ..
-            },
-            Token {
-                lexeme: Lexeme::Sym(Symbol::Dollar),
-                ..
-            },
-            ..
-        ] => { quantifier_word(name.as_str()).is_some() }
+        [Token::Name(name), Token::Sym(Symbol::Dollar), ..] => {
+            quantifier_word(name.as_str()).is_some()
+        }
         _ => false,
     }
 }
@@ -565,17 +375,7 @@ pub(crate) fn begins_if(tokens: &[Token]) -> bool
     ensures { result ≡ spec.begins_if (lexemes tokens.now) }
 {
     match tokens {
-        [
-            Token {
-                lexeme: Lexeme::Name(name),
-                ..
-            },
-            Token {
-                lexeme: Lexeme::Sym(Symbol::OpenParenthesis),
-                ..
-            },
-            ..
-        ] => { name.as_str() == "if" }
+        [Token::Name(name), Token::Sym(Symbol::OpenParenthesis), ..] => { name.as_str() == "if" }
         _ => false,
     }
 }

@@ -15,7 +15,7 @@ use crate::words::{begins, one_of};
 use std::alloc::Global;
 use xq_atoms::{Code, Fault};
 use xq_expressions::{AxisName, AxisStep, NodeTest, QName, Text};
-use xq_lexer::{Lexeme, Symbol, Token};
+use xq_lexer::{Symbol, Token};
 
 /// A name, `*` or nothing.
 #[tactic(auto, unfolding(crate::specs::private::Reading::name_or_any, crate::specs::private::Reading::begins, crate::specs::private::Reading::one_of, crate::specs::Look::lookup, crate::specs::Look::same, crate::specs::Look::same_symbol))]
@@ -27,13 +27,7 @@ fn name_or_any(alloc: Global, tokens: &[Token]) -> Result<(Option<QName>, &[Toke
         return Ok((Some(name), rest));
     }
     match tokens {
-        [
-            Token {
-                lexeme: Lexeme::Sym(Symbol::Star),
-                ..
-            },
-            rest @ ..,
-        ] => Ok((None, rest)),
+        [Token::Sym(Symbol::Star), rest @ ..] => Ok((None, rest)),
         _ => Ok((None, tokens)),
     }
 }
@@ -150,13 +144,7 @@ fn any_name(tokens: &[Token]) -> Result<(NodeTest, &[Token]), Fault>
         (spec.one_of ((symbol_lex s.Star, test.AnyName) ∷ []) (lexemes tokens.now)) }
 {
     match tokens {
-        [
-            Token {
-                lexeme: Lexeme::Sym(Symbol::Star),
-                ..
-            },
-            rest @ ..,
-        ] => Ok((NodeTest::AnyName, rest)),
+        [Token::Sym(Symbol::Star), rest @ ..] => Ok((NodeTest::AnyName, rest)),
         _ => Err(Fault::Code(Code::XPST0003)),
     }
 }
@@ -204,13 +192,7 @@ fn parent(tokens: &[Token]) -> Result<(AxisStep, &[Token]), Fault>
         (spec.one_of ((symbol_lex s.DoubleDot, along.Parent) ∷ []) (lexemes tokens.now)) }
 {
     match tokens {
-        [
-            Token {
-                lexeme: Lexeme::Sym(Symbol::DoubleDot),
-                ..
-            },
-            rest @ ..,
-        ] => Ok((AxisStep::Parent, rest)),
+        [Token::Sym(Symbol::DoubleDot), rest @ ..] => Ok((AxisStep::Parent, rest)),
         _ => Err(Fault::Code(Code::XPST0003)),
     }
 }

@@ -18,7 +18,7 @@ use sqlite_items::{Boxed, Items};
 use std::alloc::Global;
 use xq_atoms::{Code, Fault};
 use xq_expressions::{Expr, PathStart, Separator, Step};
-use xq_lexer::{Lexeme, Symbol, Token};
+use xq_lexer::{Symbol, Token};
 
 impl<'a, F: Fn(Global, usize, &'a [Token]) -> Result<(Boxed<Expr>, &'a [Token]), Fault>> Grammar<
     F,
@@ -111,13 +111,9 @@ impl<'a, F: Fn(Global, usize, &'a [Token]) -> Result<(Boxed<Expr>, &'a [Token]),
             (spec.one_of ((symbol_lex s.Slash, e.Root) ∷ []) (lexemes tokens.now)) }
     {
         match tokens {
-            [
-                Token {
-                    lexeme: Lexeme::Sym(Symbol::Slash),
-                    ..
-                },
-                rest @ ..,
-            ] => { Ok((Boxed::new(self.alloc, Expr::Root)?, rest)) }
+            [Token::Sym(Symbol::Slash), rest @ ..] => {
+                Ok((Boxed::new(self.alloc, Expr::Root)?, rest))
+            }
             _ => Err(Fault::Code(Code::XPST0003)),
         }
     }

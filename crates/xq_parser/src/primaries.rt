@@ -17,7 +17,7 @@ use sqlite_items::{Boxed, Items};
 use std::alloc::Global;
 use xq_atoms::Fault;
 use xq_expressions::{ConstructorName, Expr, NamedNode, QName, Text, UnnamedNode};
-use xq_lexer::{Lexeme, Symbol, Token};
+use xq_lexer::{Symbol, Token};
 
 /// The lines of the grammar, over what reads a single expression that nests deeper.
 #[derive(Clone, Copy)]
@@ -333,13 +333,13 @@ impl<'a, F: Fn(Global, usize, &'a [Token]) -> Result<(Boxed<Expr>, &'a [Token]),
         let [first, rest @ ..] = tokens else {
             return self.call_or_make(tokens);
         };
-        let value = match &first.lexeme {
-            Lexeme::Int(value) => Expr::Int(*value),
-            Lexeme::Dec(value) => Expr::Dec(*value),
-            Lexeme::Str(value) => Expr::Str(Text::copy_of(self.alloc, value.as_str())?),
-            Lexeme::Sym(Symbol::Dot) => Expr::ContextItem,
-            Lexeme::Sym(Symbol::Dollar) => return self.variable_reference(tokens),
-            Lexeme::Sym(Symbol::OpenParenthesis) => return self.parenthesised(tokens),
+        let value = match first {
+            Token::Int(value) => Expr::Int(*value),
+            Token::Dec(value) => Expr::Dec(*value),
+            Token::Str(value) => Expr::Str(Text::copy_of(self.alloc, value.as_str())?),
+            Token::Sym(Symbol::Dot) => Expr::ContextItem,
+            Token::Sym(Symbol::Dollar) => return self.variable_reference(tokens),
+            Token::Sym(Symbol::OpenParenthesis) => return self.parenthesised(tokens),
             _ => return self.call_or_make(tokens),
         };
         Ok((Boxed::new(self.alloc, value)?, rest))

@@ -13,15 +13,15 @@ use xq_expressions::{
     AllowingEmpty, AxisName, ComparisonOperator, Direction, EmptyOrder, NamedNode, NodeComparison,
     NodeTest, ProductOperator, Quantifier, Relation, Separator, SetOperator, Sign, UnnamedNode,
 };
-use xq_lexer::{Lexeme, Symbol, Token};
+use xq_lexer::{Symbol, Token};
 
 /// What a table of the grammar gives a token.
 pub(crate) trait Listed: Sized {
     ghost table: { look.Table Self };
 
     /// What the token stands for.
-    fn of(lexeme: &Lexeme) -> Option<Self>
-        ensures { result ≡ look.lookup table (lex_of lexeme.now) };
+    fn of(token: &Token) -> Option<Self>
+        ensures { result ≡ look.lookup table (lex_of token.now) };
 }
 
 /// What the next token stands for, and the tokens after it.
@@ -30,7 +30,7 @@ pub(crate) fn one_of<T: Listed>(tokens: &[Token]) -> Result<(T, &[Token]), Fault
     ensures { Parses result (spec.one_of T.table (lexemes tokens.now)) }
 {
     match tokens {
-        [first, rest @ ..] => match T::of(&first.lexeme) {
+        [first, rest @ ..] => match T::of(first) {
             Some(found) => Ok((found, rest)),
             None => Err(Fault::Code(Code::XPST0003)),
         },
@@ -44,7 +44,7 @@ pub(crate) fn begins<T: Listed + Drop>(tokens: &[Token]) -> bool
     ensures { result ≡ spec.begins T.table (lexemes tokens.now) }
 {
     match tokens {
-        [first, ..] => T::of(&first.lexeme).is_some(),
+        [first, ..] => T::of(first).is_some(),
         [] => false,
     }
 }
@@ -52,10 +52,10 @@ pub(crate) fn begins<T: Listed + Drop>(tokens: &[Token]) -> bool
 impl Listed for Sign {
     ghost table = { g.signs };
 
-    fn of(lexeme: &Lexeme) -> Option<Sign> {
-        match lexeme {
-            Lexeme::Sym(Symbol::Plus) => Some(Sign::Plus),
-            Lexeme::Sym(Symbol::Minus) => Some(Sign::Minus),
+    fn of(token: &Token) -> Option<Sign> {
+        match token {
+            Token::Sym(Symbol::Plus) => Some(Sign::Plus),
+            Token::Sym(Symbol::Minus) => Some(Sign::Minus),
             _ => None,
         }
     }
@@ -76,10 +76,10 @@ fn product_operator_word(word: &str) -> Option<ProductOperator>
 impl Listed for ProductOperator {
     ghost table = { g.product_operators };
 
-    fn of(lexeme: &Lexeme) -> Option<ProductOperator> {
-        match lexeme {
-            Lexeme::Sym(Symbol::Star) => Some(ProductOperator::Times),
-            Lexeme::Name(word) => product_operator_word(word.as_str()),
+    fn of(token: &Token) -> Option<ProductOperator> {
+        match token {
+            Token::Sym(Symbol::Star) => Some(ProductOperator::Times),
+            Token::Name(word) => product_operator_word(word.as_str()),
             _ => None,
         }
     }
@@ -99,9 +99,9 @@ fn set_operator_word(word: &str) -> Option<SetOperator>
 impl Listed for SetOperator {
     ghost table = { g.set_operators };
 
-    fn of(lexeme: &Lexeme) -> Option<SetOperator> {
-        match lexeme {
-            Lexeme::Name(word) => set_operator_word(word.as_str()),
+    fn of(token: &Token) -> Option<SetOperator> {
+        match token {
+            Token::Name(word) => set_operator_word(word.as_str()),
             _ => None,
         }
     }
@@ -110,10 +110,10 @@ impl Listed for SetOperator {
 impl Listed for Separator {
     ghost table = { g.separators };
 
-    fn of(lexeme: &Lexeme) -> Option<Separator> {
-        match lexeme {
-            Lexeme::Sym(Symbol::Slash) => Some(Separator::Slash),
-            Lexeme::Sym(Symbol::DoubleSlash) => Some(Separator::DoubleSlash),
+    fn of(token: &Token) -> Option<Separator> {
+        match token {
+            Token::Sym(Symbol::Slash) => Some(Separator::Slash),
+            Token::Sym(Symbol::DoubleSlash) => Some(Separator::DoubleSlash),
             _ => None,
         }
     }
@@ -138,23 +138,21 @@ fn comparison_word(word: &str) -> Option<ComparisonOperator>
 impl Listed for ComparisonOperator {
     ghost table = { g.comparisons };
 
-    fn of(lexeme: &Lexeme) -> Option<ComparisonOperator> {
-        match lexeme {
-            Lexeme::Sym(Symbol::Equal) => Some(ComparisonOperator::General(Relation::Equal)),
-            Lexeme::Sym(Symbol::NotEqual) => Some(ComparisonOperator::General(Relation::NotEqual)),
-            Lexeme::Sym(Symbol::Less) => Some(ComparisonOperator::General(Relation::Less)),
-            Lexeme::Sym(Symbol::LessEqual) => Some(ComparisonOperator::General(
-                Relation::LessEqual,
-            )),
-            Lexeme::Sym(Symbol::Greater) => Some(ComparisonOperator::General(Relation::Greater)),
-            Lexeme::Sym(Symbol::GreaterEqual) => Some(ComparisonOperator::General(
+    fn of(token: &Token) -> Option<ComparisonOperator> {
+        match token {
+            Token::Sym(Symbol::Equal) => Some(ComparisonOperator::General(Relation::Equal)),
+            Token::Sym(Symbol::NotEqual) => Some(ComparisonOperator::General(Relation::NotEqual)),
+            Token::Sym(Symbol::Less) => Some(ComparisonOperator::General(Relation::Less)),
+            Token::Sym(Symbol::LessEqual) => Some(ComparisonOperator::General(Relation::LessEqual)),
+            Token::Sym(Symbol::Greater) => Some(ComparisonOperator::General(Relation::Greater)),
+            Token::Sym(Symbol::GreaterEqual) => Some(ComparisonOperator::General(
                 Relation::GreaterEqual,
             )),
-            Lexeme::Sym(Symbol::Precedes) => Some(ComparisonOperator::Node(
+            Token::Sym(Symbol::Precedes) => Some(ComparisonOperator::Node(
                 NodeComparison::Precedes,
             )),
-            Lexeme::Sym(Symbol::Follows) => Some(ComparisonOperator::Node(NodeComparison::Follows)),
-            Lexeme::Name(word) => comparison_word(word.as_str()),
+            Token::Sym(Symbol::Follows) => Some(ComparisonOperator::Node(NodeComparison::Follows)),
+            Token::Name(word) => comparison_word(word.as_str()),
             _ => None,
         }
     }
@@ -174,9 +172,9 @@ pub(crate) fn quantifier_word(word: &str) -> Option<Quantifier>
 impl Listed for Quantifier {
     ghost table = { g.quantifiers };
 
-    fn of(lexeme: &Lexeme) -> Option<Quantifier> {
-        match lexeme {
-            Lexeme::Name(word) => quantifier_word(word.as_str()),
+    fn of(token: &Token) -> Option<Quantifier> {
+        match token {
+            Token::Name(word) => quantifier_word(word.as_str()),
             _ => None,
         }
     }
@@ -196,9 +194,9 @@ fn direction_word(word: &str) -> Option<Direction>
 impl Listed for Direction {
     ghost table = { g.directions };
 
-    fn of(lexeme: &Lexeme) -> Option<Direction> {
-        match lexeme {
-            Lexeme::Name(word) => direction_word(word.as_str()),
+    fn of(token: &Token) -> Option<Direction> {
+        match token {
+            Token::Name(word) => direction_word(word.as_str()),
             _ => None,
         }
     }
@@ -218,9 +216,9 @@ fn empty_order_word(word: &str) -> Option<EmptyOrder>
 impl Listed for EmptyOrder {
     ghost table = { g.empty_orders };
 
-    fn of(lexeme: &Lexeme) -> Option<EmptyOrder> {
-        match lexeme {
-            Lexeme::Name(word) => empty_order_word(word.as_str()),
+    fn of(token: &Token) -> Option<EmptyOrder> {
+        match token {
+            Token::Name(word) => empty_order_word(word.as_str()),
             _ => None,
         }
     }
@@ -239,9 +237,9 @@ fn allowance_word(word: &str) -> Option<AllowingEmpty>
 impl Listed for AllowingEmpty {
     ghost table = { spec.allowances };
 
-    fn of(lexeme: &Lexeme) -> Option<AllowingEmpty> {
-        match lexeme {
-            Lexeme::Name(word) => allowance_word(word.as_str()),
+    fn of(token: &Token) -> Option<AllowingEmpty> {
+        match token {
+            Token::Name(word) => allowance_word(word.as_str()),
             _ => None,
         }
     }
@@ -271,9 +269,9 @@ fn axis_name_word(word: &str) -> Option<AxisName>
 impl Listed for AxisName {
     ghost table = { g.axis_names };
 
-    fn of(lexeme: &Lexeme) -> Option<AxisName> {
-        match lexeme {
-            Lexeme::Name(word) => axis_name_word(word.as_str()),
+    fn of(token: &Token) -> Option<AxisName> {
+        match token {
+            Token::Name(word) => axis_name_word(word.as_str()),
             _ => None,
         }
     }
@@ -295,9 +293,9 @@ fn plain_kind_word(word: &str) -> Option<NodeTest>
 impl Listed for NodeTest {
     ghost table = { g.plain_kinds };
 
-    fn of(lexeme: &Lexeme) -> Option<NodeTest> {
-        match lexeme {
-            Lexeme::Name(word) => plain_kind_word(word.as_str()),
+    fn of(token: &Token) -> Option<NodeTest> {
+        match token {
+            Token::Name(word) => plain_kind_word(word.as_str()),
             _ => None,
         }
     }
@@ -317,9 +315,9 @@ pub(crate) fn named_node_word(word: &str) -> Option<NamedNode>
 impl Listed for NamedNode {
     ghost table = { g.named_nodes };
 
-    fn of(lexeme: &Lexeme) -> Option<NamedNode> {
-        match lexeme {
-            Lexeme::Name(word) => named_node_word(word.as_str()),
+    fn of(token: &Token) -> Option<NamedNode> {
+        match token {
+            Token::Name(word) => named_node_word(word.as_str()),
             _ => None,
         }
     }
@@ -340,9 +338,9 @@ fn unnamed_node_word(word: &str) -> Option<UnnamedNode>
 impl Listed for UnnamedNode {
     ghost table = { g.unnamed_nodes };
 
-    fn of(lexeme: &Lexeme) -> Option<UnnamedNode> {
-        match lexeme {
-            Lexeme::Name(word) => unnamed_node_word(word.as_str()),
+    fn of(token: &Token) -> Option<UnnamedNode> {
+        match token {
+            Token::Name(word) => unnamed_node_word(word.as_str()),
             _ => None,
         }
     }
@@ -408,13 +406,7 @@ pub(crate) fn begins_clause(tokens: &[Token]) -> bool
     ensures { result ≡ spec.begins spec.clause_words (lexemes tokens.now) }
 {
     match tokens {
-        [
-            Token {
-                lexeme: Lexeme::Name(word),
-                ..
-            },
-            ..
-        ] => clause_word(word.as_str()),
+        [Token::Name(word), ..] => clause_word(word.as_str()),
         _ => false,
     }
 }

@@ -1,15 +1,13 @@
 -- The laws of printed results put together: a value is printable, and its text is read again.
 use Rattle.std.proofs.Common.{◌≡◌, ℕ, List, ◌++◌, Ok, Err, sym, ap, subst}
 use Rattle.std.specs.Str.{chars}
-use Rattle.xq_lexer.specs.Lexeme.{Lex}
 use Rattle.xq_lexer.specs.Spelling.{Spells}
 use Rattle.xq_meaning.specs.Items.{Item}
 use Rattle.xq_meaning.specs.Doing.{Outcome}
 use Rattle.xq_meaning.specs.Meaning.{evaluated}
-use Rattle.xq_readback.specs.Quoted.{quoted_items}
+use Rattle.xq_readback.specs.Quoted.{quoted_items, items_tokens}
 use Rattle.xq_readback.specs.Readback.{PrintSpells, TokensDerive, QuotedGives}
 use Rattle.xq_readback.specs.Results.{ResultsAreLegible, LegibleIsPrintable}
-use Rattle.xq_queries.specs.Reading.{TokensRead}
 use Rattle.xq_queries.specs.Texts.{characters}
 use Rattle.xq_queries.specs.Values.{Value, value_of, printed}
 use Rattle.xq_queries.specs.ReadBack.{ReadsBack, ValuesArePrintable}
@@ -26,9 +24,9 @@ reads_back print_spells tokens_derive quoted_gives = λ v are text addresses oth
       reads = (
         text,
         (
-          spelled.0,
-          subst (λ (t : List ℕ). Spells (chars t) spelled.0) (sym lines) spelled.1,
-          subst (λ (ls : List Lex). TokensRead ls (quoted_items v.1 v.0)) (sym spelled.2) derived,
+          items_tokens v.1 v.0,
+          subst (λ (t : List ℕ). Spells (chars t) (items_tokens v.1 v.0)) (sym lines) spelled,
+          derived,
         ),
       );
       again = (given.items, others ++ given.added);

@@ -18,7 +18,7 @@ use Rattle.xq_statics.specs.Places.{Place, named, position, variable, grouping, 
 use Rattle.xq_statics.specs.Faults.{is_among, unless, unprefixed, position_fault, arity_fault, type_fault, call_fault, fault_at, first_fault}
 use Rattle.xq_statics.specs.Statics.{places, static_fault}
 use Rattle.xq_queries.specs.Texts.{characters}
-use Rattle.xq_queries.specs.Reading.{lexemes, TokensFault, CharactersFault, IsEarly, FaultsComeLater}
+use Rattle.xq_queries.specs.Reading.{TokensFault, CharactersFault, IsEarly, FaultsComeLater}
 
 abbrev is_late : Code → Bool
 is_late ProfFrame = false
@@ -169,7 +169,7 @@ late_here text code fault = elim fault [
 late_of_characters : (text : List ℕ) (code : Code) → CharactersFault text code → IsLate code
 late_of_characters text code fault = elim fault [
   | inl wrong ↦ late_here wrong.1 code wrong.3
-  | inr derived ↦ late_of_tokens (lexemes derived.0) code derived.2
+  | inr derived ↦ late_of_tokens derived.0 code derived.2
 ]
 
 pub faults_late : FaultsComeLater

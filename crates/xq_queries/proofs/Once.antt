@@ -3,13 +3,13 @@ use Rattle.std.proofs.Common.{◌≡◌, ℕ, List, sym, ◌∙◌, ap, subst, a
 use Rattle.xq_atoms.specs.declared.refusals.Code.{Code}
 use Rattle.xq_atoms.specs.Judged.{Judged}
 use Rattle.xq_expressions.specs.declared.expressions.Expr.{Expr}
-use Rattle.xq_lexer.specs.Lexeme.{Lex, Placed}
+use Rattle.xq_lexer.specs.Lexeme.{Lex}
 use Rattle.xq_lexer.specs.Spelling.{Spells}
 use Rattle.xq_lexer.proofs.Lists.{spells_one, spells_no_fault, one_fault}
 use Rattle.xq_parser.proofs.Top.{derives_one}
 use Rattle.xq_statics.specs.Statics.{static_fault}
 use Rattle.xq_queries.specs.Texts.{characters}
-use Rattle.xq_queries.specs.Reading.{lexemes, TokensFault, TokensRead, CharactersFault, IsRead, IsRefused, Reads}
+use Rattle.xq_queries.specs.Reading.{TokensFault, TokensRead, CharactersFault, IsRead, IsRefused, Reads}
 
 -- ---- tokens
 
@@ -51,22 +51,19 @@ one_fault_of_tokens tokens c d p q = elim p [
 
 -- ---- characters
 
-same_tokens : (text : List ℕ) (ts us : List Placed) → Spells text ts → Spells text us → lexemes us ≡ lexemes ts
-same_tokens text ts us p q = ap lexemes (spells_one text ts us p q)
-
 -- the text derives this, by some tokens
 abbrev CharactersRead : List ℕ → Expr → Type 0
-CharactersRead text e = (tokens : List Placed) × Spells text tokens × TokensRead (lexemes tokens) e
+CharactersRead text e = (tokens : List Lex) × Spells text tokens × TokensRead tokens e
 
 one_expression_of_characters : (text : List ℕ) (e f : Expr) → CharactersRead text e → CharactersRead text f → e ≡ f
 one_expression_of_characters text e f p q =
-    one_expression (lexemes p.0) e f p.2 (subst (λ ts. TokensRead ts f) (same_tokens text p.0 q.0 p.1 q.1) q.2)
+    one_expression p.0 e f p.2 (subst (λ ts. TokensRead ts f) (spells_one text p.0 q.0 p.1 q.1) q.2)
 
 not_both_of_characters : (text : List ℕ) (e : Expr) (code : Code) → CharactersRead text e → CharactersFault text code → ⊥
 not_both_of_characters text e code p q = elim q [
   | inl fault ↦ spells_no_fault text p.0 code p.1 fault
-  | inr derived ↦ not_both_of_tokens (lexemes p.0) e code p.2
-      (subst (λ ts. TokensFault ts code) (same_tokens text p.0 derived.0 p.1 derived.1) derived.2)
+  | inr derived ↦ not_both_of_tokens p.0 e code p.2
+      (subst (λ ts. TokensFault ts code) (spells_one text p.0 derived.0 p.1 derived.1) derived.2)
 ]
 
 one_fault_of_characters : (text : List ℕ) (c d : Code) → CharactersFault text c → CharactersFault text d → c ≡ d
@@ -77,8 +74,8 @@ one_fault_of_characters text c d p q = elim p [
   ]
   | inr derived ↦ elim q [
     | inl fault ↦ absurd (spells_no_fault text derived.0 d derived.1 fault)
-    | inr other ↦ one_fault_of_tokens (lexemes derived.0) c d derived.2
-        (subst (λ ts. TokensFault ts d) (same_tokens text derived.0 other.0 derived.1 other.1) other.2)
+    | inr other ↦ one_fault_of_tokens derived.0 c d derived.2
+        (subst (λ ts. TokensFault ts d) (spells_one text derived.0 other.0 derived.1 other.1) other.2)
   ]
 ]
 

@@ -1,12 +1,12 @@
 -- The steps of reading, one after another.
-use Rattle.std.proofs.Common.{◌≡◌, ◌≤◌, ℕ, List, [], ◌∷◌, map, refl, sym, ◌∙◌, ap, subst, None, Ok, Err, Result, inl, inr, IsErrAnd}
+use Rattle.std.proofs.Common.{◌≡◌, ◌≤◌, ℕ, List, [], ◌∷◌, map, refl, ◌∙◌, ap, subst, None, Ok, Err, Result, inl, inr, IsErrAnd}
 use Rattle.std.specs.Str.{IsUtf8}
 use Rattle.xq_atoms.specs.declared.refusals.Code.TheVariants.{XPST0003, ProfDepth}
 use Rattle.xq_atoms.specs.declared.refusals.Fault.{Fault}
 use Rattle.xq_atoms.specs.declared.refusals.Fault.TheVariants.{Code as OfCode, Want as OfWant}
 use Rattle.xq_atoms.specs.declared.refusals.Want.TheVariants.{Memory, Store}
 use Rattle.xq_lexer.specs.declared.tokens.Token.{Token}
-use Rattle.xq_lexer.specs.Lexeme.{Lex, placed, lex_of, lexemes as token_lexemes}
+use Rattle.xq_lexer.specs.Lexeme.{Lex, lexemes}
 use Rattle.xq_lexer.specs.Nesting.{nesting}
 use Rattle.xq_lexer.specs.Spelling.{Spells}
 use Rattle.xq_lexer.specs.TokenFaults.{RefusesText}
@@ -22,16 +22,10 @@ use Rattle.xq_meaning.specs.Same.{IsNormalForm, IsPlan}
 use Rattle.xq_normal.specs.DocumentPaths.{StaysDocumentPath, written_out}
 use Rattle.xq_plan.specs.Scans.{ScansDocument}
 use Rattle.xq_queries.specs.Texts.{characters}
-use Rattle.xq_queries.specs.Reading.{lexemes, CharactersFault, TokensFault, TokensRead}
+use Rattle.xq_queries.specs.Reading.{CharactersFault}
 use Rattle.xq_queries.specs.Scans.{ScansItsDocument}
 use Rattle.xq_queries.specs.Values.{IsPlanOf, Plans, value_of}
 use Rattle.xq_queries.specs.private.Plans.{Checks, Parses, Understands}
-
--- ---- tokens without their places
-
-pub lexemes_placed : (ts : List Token) → lexemes (placed ts) ≡ token_lexemes ts
-lexemes_placed [] = refl
-lexemes_placed (t ∷ ts) = ap (λ rest. lex_of t.lexeme ∷ rest) (lexemes_placed ts)
 
 -- ---- characters
 
@@ -39,12 +33,10 @@ pub lex_refused : (text : List ℕ) (fault : Fault) → RefusesText text fault �
 lex_refused text (OfCode code) refused = inl refused.0
 lex_refused text (OfWant want) refused = refused
 
-pub parses_by : (text : List ℕ) (ts : List Token) (r : Result Expr Fault) → Spells text (placed ts)
-    → Checks (token_lexemes ts) r → Parses text r
-parses_by text ts (Ok e) spelled checks =
-    (placed ts, spelled, subst (λ l. TokensRead l e) (sym (lexemes_placed ts)) checks)
-parses_by text ts (Err (OfCode code)) spelled checks =
-    inr (placed ts, spelled, subst (λ l. TokensFault l code) (sym (lexemes_placed ts)) checks)
+pub parses_by : (text : List ℕ) (ts : List Token) (r : Result Expr Fault) → Spells text (lexemes ts)
+    → Checks (lexemes ts) r → Parses text r
+parses_by text ts (Ok e) spelled checks = (lexemes ts, spelled, checks)
+parses_by text ts (Err (OfCode code)) spelled checks = inr (lexemes ts, spelled, checks)
 parses_by text ts (Err (OfWant want)) spelled checks = checks
 
 -- ---- tokens

@@ -1,12 +1,12 @@
 -- The expression that a text is read as, or the code for which it is refused before anything is
 -- evaluated (XQuery 3.1, 2.2.3.1): in this order its bytes, tokens, nesting, grammar and static
 -- faults are judged.
-use Rattle.std.specs.Prelude.{◌≡◌, ◌⊎◌, ◌≤◌, ◌<◌, ℕ, List, map, Ok, Err, Some, None}
+use Rattle.std.specs.Prelude.{◌≡◌, ◌⊎◌, ◌≤◌, ◌<◌, ℕ, List, Ok, Err, Some, None}
 use Rattle.std.specs.Str.{IsUtf8}
 use Rattle.xq_atoms.specs.declared.refusals.Code.{Code}
 use Rattle.xq_atoms.specs.declared.refusals.Code.TheVariants.{XPST0003, ProfAddress, ProfDepth, ProfFrame, ProfUtf8}
 use Rattle.xq_atoms.specs.Judged.{Judged}
-use Rattle.xq_lexer.specs.Lexeme.{Lex, Placed}
+use Rattle.xq_lexer.specs.Lexeme.{Lex}
 use Rattle.xq_lexer.specs.Nesting.{deepest_nesting, nesting}
 use Rattle.xq_lexer.specs.Spelling.{Spells}
 use Rattle.xq_lexer.specs.TokenFaults.{HasFault}
@@ -14,10 +14,6 @@ use Rattle.xq_expressions.specs.declared.expressions.Expr.{Expr}
 use Rattle.xq_parser.specs.Grammar.{Derives}
 use Rattle.xq_statics.specs.Statics.{static_fault}
 use Rattle.xq_queries.specs.Texts.{characters}
-
--- what the tokens are, without their places
-abbrev pub lexemes : List Placed → List Lex
-lexemes tokens = map (λ t. t.lex) tokens
 
 -- the tokens nest too deep, derive no expression, or one with a static fault
 abbrev pub TokensFault : List Lex → Code → Type 0
@@ -31,7 +27,7 @@ TokensFault tokens code =
 abbrev pub CharactersFault : List ℕ → Code → Type 0
 CharactersFault text code =
     HasFault text code
-    ⊎ ((tokens : List Placed) × Spells text tokens × TokensFault (lexemes tokens) code)
+    ⊎ ((tokens : List Lex) × Spells text tokens × TokensFault tokens code)
 
 -- the bytes are no UTF-8, or their characters are at fault
 abbrev pub IsRefused : List ℕ → Code → Type 0
@@ -48,7 +44,7 @@ TokensRead tokens e = (nesting tokens ≤ deepest_nesting) × Derives tokens e
 abbrev pub IsRead : List ℕ → Expr → Type 0
 IsRead text e =
     IsUtf8 text
-    × ((tokens : List Placed) × Spells (characters text) tokens × TokensRead (lexemes tokens) e)
+    × ((tokens : List Lex) × Spells (characters text) tokens × TokensRead tokens e)
 
 -- The text reads as this expression, or is refused for this code.
 abbrev pub Reads : List ℕ → Judged Expr → Type 0

@@ -1,25 +1,20 @@
 -- Tokens as they are printed, some with a space after them, and that each is read where it stands.
-use Rattle.std.proofs.Common.{◌≡◌, ℕ, suc, ◌+◌, ◌-◌, ◌≤◌, Bool, true, false, List, [], ◌∷◌, ◌++◌, length, map, Some, Ok, refl, sym, ap, ◌∙◌, subst, arith, append_assoc, ◌⊎◌, inl, inr}
+use Rattle.std.proofs.Common.{◌≡◌, ℕ, suc, ◌+◌, Bool, true, false, List, [], ◌∷◌, ◌++◌, length, Some, Ok, refl, sym, ap, ◌∙◌, subst, arith, append_assoc, ◌⊎◌, inl, inr}
 use Rattle.std.specs.Prelude.{◌==◌}
 use Rattle.std.proofs.lemmas.Bool.{false≢true, false_from_ne_true}
 use Rattle.std.proofs.lemmas.Bool.Decides.{nat_tests}
 use Rattle.xq_atoms.specs.Characters.{is_space, is_name_start, is_name_char}
 use Rattle.xq_lexer.specs.Chars.{Text, begins}
 use Rattle.xq_lexer.specs.Separators.{skip}
-use Rattle.xq_lexer.specs.Lexeme.{Lex, Placed}
+use Rattle.xq_lexer.specs.Lexeme.{Lex}
 use Rattle.xq_lexer.specs.declared.tokens.Symbol.TheVariants as s
 use Rattle.xq_lexer.specs.Literals.{Piece, ArePieces, content_text}
-use Rattle.xq_lexer.specs.Spelling.{Form, name, string, symbol, form_text, form_lex, IsName, Before, Spells, bytes}
+use Rattle.xq_lexer.specs.Spelling.{Form, name, string, symbol, form_text, form_lex, IsName, Next, Spells}
 use Rattle.xq_lexer.specs.Reading.{after_name, read_name, as_string, read_symbol, read_token}
 use Rattle.xq_lexer.proofs.Spans.{span_exact}
 use Rattle.xq_lexer.proofs.Forms.{name_parts, name_chars}
 use Rattle.xq_lexer.proofs.Contents.{content_read}
-use Rattle.xq_lexer.proofs.RunLemmas.{bytes_append}
 use Rattle.xq_lexer.proofs.TokenLemmas.{Found, Means, token_means, name_token, string_token}
-
--- what the tokens are, without their places
-abbrev pub lexemes : List Placed → List Lex
-lexemes tokens = map (λ t. t.lex) tokens
 
 -- a token, and whether a space stands after it
 abbrev pub Mark : Type 0
@@ -50,7 +45,7 @@ abbrev pub AreThere : List Mark → Type 0
 AreThere [] = Unit {0}
 AreThere (m ∷ ms) = IsThere m.0 (gap m.1 ++ marks_text ms) × AreThere ms
 
--- ---- from marks to tokens in their places
+-- ---- from marks to tokens
 
 -- the text stands as it is, or a space is in front of it
 abbrev Spaced : Text → Text → Type 0
@@ -67,53 +62,28 @@ spaced_skip : (text : Text) (f : Form) (after : Text) → (t : IsThere f after) 
 spaced_skip text f after t (inl same) = ap (skip 0) (same ∙ t.whole) ∙ t.skipped ∙ ap (λ (z : Text). Some z) (sym t.whole)
 spaced_skip text f after t (inr same) = ap (skip 0) (same ∙ ap (λ (z : Text). 32 ∷ z) t.whole) ∙ skip_space t.first t.rest ∙ t.skipped ∙ ap (λ (z : Text). Some z) (sym t.whole)
 
-spaced_bytes : (text z : Text) → Spaced text z → bytes z ≤ bytes text
-spaced_bytes text z (inl same) = let e = ap bytes same in omega (arith, e)
-spaced_bytes text z (inr same) = let e = ap bytes same in let a = bytes_append (32 ∷ []) z in omega (arith, e, a)
-
 gap_spaced : (b : Bool) (z : Text) → Spaced (gap b ++ z) z
 gap_spaced true z = inr refl
 gap_spaced false z = inl refl
-
--- tokens in their places up to the end
-pub record Placing (total : ℕ) (text : Text) (ms : List Mark) : Type 0 where
-  pub tokens : List Placed
-  pub rest : Text
-  pub before : Before total text tokens rest
-  pub ends : skip 0 rest ≡ Some []
-  pub lexes : lexemes tokens ≡ marks_lexes ms
 
 nothing_left : (text : Text) → Spaced text [] → skip 0 text ≡ Some []
 nothing_left text (inl same) = ap (skip 0) same
 nothing_left text (inr same) = ap (skip 0) same
 
--- marks that are there, by their places
-place : (total : ℕ) (text : Text) (ms : List Mark) → AreThere ms → Spaced text (marks_text ms) → bytes text ≤ total → Placing total text ms
-place total text [] are spaced room = record { tokens = []; rest = text; before = refl; ends = nothing_left text spaced; lexes = refl }
-place total text (m ∷ ms) are spaced room =
+-- marks that are there are tokens up to the end of the text
+place : (text : Text) (ms : List Mark) → AreThere ms → Spaced text (marks_text ms) → Spells text (marks_lexes ms)
+place text [] are spaced = (text, refl, nothing_left text spaced)
+place text (m ∷ ms) are spaced =
     let f : Form = m.0 in
     let after : Text = gap m.1 ++ marks_text ms in
     let here = found f after are.0 in
-    let whole : Text = form_text f ++ after in
-    let less = spaced_bytes text whole spaced in
-    let split = bytes_append (form_text f) after in
-    let start : total - bytes whole + bytes whole ≡ total = omega (arith, less, room) in
-    let end : total - bytes after + bytes after ≡ total = omega (arith, less, room, split) in
-    let token : Placed = record { lex = form_lex f; start = total - bytes whole; end = total - bytes after } in
-    let rest = place total after ms are.1 (gap_spaced m.1 (marks_text ms)) (omega (arith, less, room, split)) in
-    record {
-      tokens = token ∷ rest.tokens;
-      rest = rest.rest;
-      before = (after, record { form = f; skipped = spaced_skip text f after are.0 spaced; is_form = here.is; longest = here.longest; stands = here.stands; lex = refl; start = start; end = end }, rest.before);
-      ends = rest.ends;
-      lexes = ap (λ (ls : List Lex). form_lex f ∷ ls) rest.lexes;
-    }
+    let more = place after ms are.1 (gap_spaced m.1 (marks_text ms)) in
+    let next : Next text (form_lex f) after = record { form = f; skipped = spaced_skip text f after are.0 spaced; is_form = here.is; longest = here.longest; stands = here.stands; lex = refl } in
+    (more.0, (after, next, more.1), more.2)
 
 -- marks that are there are the tokens of their text
-pub marks_spell : (ms : List Mark) → AreThere ms → (tokens : List Placed) × Spells (marks_text ms) tokens × (lexemes tokens ≡ marks_lexes ms)
-marks_spell ms are =
-    let p = place (bytes (marks_text ms)) (marks_text ms) ms are (inl refl) (omega arith) in
-    (p.tokens, (p.rest, p.before, p.ends), p.lexes)
+pub marks_spell : (ms : List Mark) → AreThere ms → Spells (marks_text ms) (marks_lexes ms)
+marks_spell ms are = place (marks_text ms) ms are (inl refl)
 
 -- ---- what is read
 

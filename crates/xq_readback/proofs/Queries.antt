@@ -1,5 +1,5 @@
 -- The tokens that a text spells hold characters of XML, so what the query gives is legible.
-use Rattle.std.proofs.Common.{◌≡◌, ℕ, true, List, [], ◌∷◌, map, Ok, refl, sym, subst}
+use Rattle.std.proofs.Common.{◌≡◌, ℕ, true, List, [], ◌∷◌, Ok, refl, sym, subst}
 use Rattle.std.specs.Prelude.{encode_utf8_all}
 use Rattle.std.specs.List.{list_all}
 use Rattle.std.proofs.lemmas.Bool.{and_parts}
@@ -8,7 +8,7 @@ use Rattle.std.proofs.Common.{arith}
 use Rattle.xq_atoms.specs.Characters.{is_char}
 use Rattle.xq_atoms.specs.Text.{Text}
 use Rattle.xq_lexer.specs.Chars.{is_quote}
-use Rattle.xq_lexer.specs.Lexeme.{Placed}
+use Rattle.xq_lexer.specs.Lexeme.{Lex}
 use Rattle.xq_lexer.specs.Literals.{integer, decimal, Piece, plain, doubled, reference, IsPiece, ArePieces, piece_char, content_chars}
 use Rattle.xq_lexer.specs.Spelling.{Form, name, prefixed, number, string, symbol, IsForm, form_lex, Before}
 use Rattle.xq_trees.specs.Tree.{Tree}
@@ -46,10 +46,10 @@ form_legible (number (decimal w f)) h = tt
 form_legible (string quote ps) h = spelled (encode_utf8_all (content_chars quote ps)) (content_chars quote ps, pieces_are_chars quote ps h.0 h.1, refl)
 form_legible (symbol s) h = tt
 
-before_legible : (total : ℕ) (text : List ℕ) (ts : List Placed) (rest : List ℕ) → Before total text ts rest → AreLegibleLexes (map (λ t. t.lex) ts)
-before_legible total text [] rest h = tt
-before_legible total text (t ∷ ts) rest h =
-    (subst IsLegibleLex (sym h.1.lex) (form_legible h.1.form h.1.is_form), before_legible total h.0 ts rest h.2)
+before_legible : (text : List ℕ) (ts : List Lex) (rest : List ℕ) → Before text ts rest → AreLegibleLexes ts
+before_legible text [] rest h = tt
+before_legible text (t ∷ ts) rest h =
+    (subst IsLegibleLex (sym h.1.lex) (form_legible h.1.form h.1.is_form), before_legible h.0 ts rest h.2)
 
 -- # The law
 
@@ -62,6 +62,6 @@ of_result o xs now e h = subst (Holds AreLegible) e h
 
 pub results_are_legible : ResultsAreLegible
 results_are_legible = λ characters tokens query spells derives addresses trees are xs now is.
-    (let legible = before_legible _ characters tokens spells.0 spells.1 in
-    let good = derived_good (map (λ t. t.lex) tokens) query derives legible in
+    (let legible = before_legible characters tokens spells.0 spells.1 in
+    let good = derived_good tokens query derives legible in
     of_result (evaluated query addresses trees) xs now is (good (first_frame addresses) (first_legible addresses) trees are))

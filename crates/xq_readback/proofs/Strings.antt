@@ -16,7 +16,7 @@ use Rattle.xq_lexer.specs.Chars.{Text}
 use Rattle.xq_lexer.specs.Separators.{skip}
 use Rattle.xq_lexer.specs.Lexeme.{Lex, str}
 use Rattle.xq_lexer.specs.Literals.{ampersand, hexadecimal, Piece, plain, doubled, reference, IsPiece, ArePieces, piece_text, piece_char, content_text, content_chars}
-use Rattle.xq_lexer.specs.Spelling.{Form, string, form_text, IsForm, form_lex, MayStand, bytes, Spells}
+use Rattle.xq_lexer.specs.Spelling.{Form, string, form_text, IsForm, form_lex, MayStand, Spells}
 use Rattle.xq_readback.specs.Tokens.{IsToken}
 
 -- ---- how a character is printed
@@ -121,7 +121,7 @@ skip-quote [] = refl
 skip-quote (c ∷ t) = refl
 
 -- a text that is the spelling of one form is the token of this form
-alone : (f : Form) → IsForm f → MayStand f [] → skip 0 (form_text f) ≡ Some (form_text f) → Spells (form_text f) (record { lex = form_lex f; start = 0; end = bytes (form_text f) } ∷ [])
+alone : (f : Form) → IsForm f → MayStand f [] → skip 0 (form_text f) ≡ Some (form_text f) → Spells (form_text f) (form_lex f ∷ [])
 alone f is_form stands skips =
     let whole = append-nil (form_text f) in (
       [],
@@ -134,17 +134,14 @@ alone f is_form stands skips =
           longest = λ g rest is_one equal. omega (arith, ap length equal, length-append (form_text g) rest, length-append (form_text f) []);
           stands = stands;
           lex = refl;
-          start = omega (arith, ap bytes whole);
-          end = omega arith;
         },
         refl,
       ),
       refl,
     )
 
-as_token : (printed : List ℕ) (text : Text) (lex value : Lex) (end : ℕ) → chars printed ≡ text → value ≡ lex → length printed ≡ end
-    → Spells text (record { lex = value; start = 0; end = end } ∷ []) → IsToken lex printed
-as_token printed text lex value end read is count token = rw (read, sym is, count) token
+as_token : (printed : List ℕ) (text : Text) (lex value : Lex) → chars printed ≡ text → value ≡ lex → Spells text (value ∷ []) → IsToken lex printed
+as_token printed text lex value read is token = rw (read, sym is) token
 
 pub printed-string : (t : List ℕ) → IsUtf8 t → list_all is_char (chars t) ≡ true → IsToken (str t) (quoted t)
 printed-string t text h =
@@ -153,5 +150,5 @@ printed-string t text h =
     let spelled : quoted t ≡ encode_utf8_all (form_text (literal cs)) = ap quoted (sym kept) ∙ literal-bytes cs in
     let read : chars (quoted t) ≡ form_text (literal cs) = ap chars spelled ∙ chars-encodes (form_text (literal cs)) (literal-scalars cs (scalars-chars t text)) in
     let value : form_lex (literal cs) ≡ str t = ap str (ap encode_utf8_all (content_chars-pieces cs) ∙ kept) in
-    as_token (quoted t) (form_text (literal cs)) (str t) (form_lex (literal cs)) (bytes (form_text (literal cs))) read value (ap length spelled)
+    as_token (quoted t) (form_text (literal cs)) (str t) (form_lex (literal cs)) read value
     (alone (literal cs) (refl, are_pieces cs h) refl (skip-quote (content_text 34 (map piece cs) ++ 34 ∷ [])))

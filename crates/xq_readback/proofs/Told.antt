@@ -23,7 +23,7 @@ use Rattle.xq_atoms.proofs.ReadBack.{is_whole-decimal}
 use Rattle.xq_readback.proofs.Decimals.{printed, decimal_literal-printed, print-pos, print-minus}
 use Rattle.xq_atoms.specs.Characters.{is_digit}
 use Rattle.xq_lexer.specs.Lexeme as l
-use Rattle.xq_lexer.specs.Lexeme.{Lex, Placed}
+use Rattle.xq_lexer.specs.Lexeme.{Lex}
 use Rattle.xq_lexer.specs.declared.tokens.Symbol.TheVariants as s
 use Rattle.xq_lexer.specs.Literals.{integer, decimal, IsNumber}
 use Rattle.xq_lexer.specs.Spelling.{symbol, form_text, form_lex, Spells}
@@ -36,7 +36,7 @@ use Rattle.xq_readback.specs.Quoted.{least, cast_tokens, sign_tokens, atomic_tok
 use Rattle.xq_meaning.specs.Printable.{IsValue, ArePrintable}
 use Rattle.xq_readback.specs.Readback.{PrintSpells}
 use Rattle.xq_readback.proofs.Strings.{literal}
-use Rattle.xq_readback.proofs.Marks.{Mark, lexemes, marks_text, marks_lexes, marks_spell}
+use Rattle.xq_readback.proofs.Marks.{Mark, marks_text, marks_lexes, marks_spell}
 use Rattle.xq_readback.proofs.Printing.{literal_lex, literal_bytes, valued_bytes, node_lexes, node_bytes, marks_bytes, bytes-append}
 use Rattle.xq_readback.proofs.Atoms.{cast_marks, integer_mark, decimal_mark, integer_marks, atomic_marks, below_63, below_least, below_decimal, above_decimal, fraction_is, whole_digits, first_digit}
 use Rattle.xq_readback.proofs.Values.{is_below, is_not_below}
@@ -195,8 +195,8 @@ items_bytes trees (x ∷ xs) are = tail_bytes trees x xs are
 
 -- ---- the law
 
-spelled_as : (text print : List ℕ) (ls ms : List Lex) → text ≡ print → ls ≡ ms → (tokens : List Placed) × Spells text tokens × (lexemes tokens ≡ ls) → (tokens : List Placed) × Spells print tokens × (lexemes tokens ≡ ms)
-spelled_as text print ls ms same are found = subst (λ (t : List ℕ). (tokens : List Placed) × Spells t tokens × (lexemes tokens ≡ ms)) same (found.0, found.1, found.2 ∙ are)
+spelled_as : (text print : List ℕ) (ls ms : List Lex) → text ≡ print → ls ≡ ms → Spells text ls → Spells print ms
+spelled_as text print ls ms same are found = subst (λ (t : List ℕ). Spells t ms) same (subst (λ (l : List Lex). Spells text l) are found)
 
 -- the law
 pub print_spells : PrintSpells

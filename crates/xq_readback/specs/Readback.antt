@@ -1,8 +1,7 @@
 -- What is printed of a result can be read back: three laws, each about every printable result.
-use Rattle.std.specs.Prelude.{◌≡◌, ◌≤◌, List, ◌++◌, map, Ok, None}
+use Rattle.std.specs.Prelude.{◌≡◌, ◌≤◌, List, ◌++◌, Ok, None}
 use Rattle.std.specs.Str.{IsUtf8, chars}
 use Rattle.xq_atoms.specs.Text.{Text}
-use Rattle.xq_lexer.specs.Lexeme.{Placed}
 use Rattle.xq_lexer.specs.Nesting.{deepest_nesting, nesting}
 use Rattle.xq_lexer.specs.Spelling.{Spells}
 use Rattle.xq_parser.specs.Grammar.{Derives}
@@ -19,8 +18,7 @@ use Rattle.xq_readback.specs.Same.{SameItems}
 abbrev pub PrintSpells : Type 0
 PrintSpells = (trees : List Tree) (xs : List Item) → ArePrintable trees xs
     → IsUtf8 (print_items trees xs)
-    → (tokens : List Placed) × Spells (chars (print_items trees xs)) tokens
-    × (map (λ t. t.lex) tokens ≡ items_tokens trees xs)
+    → Spells (chars (print_items trees xs)) (items_tokens trees xs)
 
 -- These tokens derive the quoted expression, which has no static fault, and nest no deeper than a
 -- query may.

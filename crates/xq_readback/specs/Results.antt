@@ -1,12 +1,12 @@
 -- What a query gives is legible: the texts of its result hold characters of XML, and its trees are
 -- trees. So the result can be printed and read again, where its numbers are within the bounds of
 -- their types, as those of the program are.
-use Rattle.std.specs.Prelude.{◌≡◌, ℕ, List, map, true, Ok}
+use Rattle.std.specs.Prelude.{◌≡◌, ℕ, List, true, Ok}
 use Rattle.std.specs.List.{AllByRecursion}
 use Rattle.xq_atoms.specs.Text.{Text}
 use Rattle.xq_atoms.specs.Atom.{Atomic, Integer, Decimal, String, Boolean, Untyped, is_integer}
 use Rattle.xq_atoms.specs.Decimal.{is_decimal}
-use Rattle.xq_lexer.specs.Lexeme.{Placed}
+use Rattle.xq_lexer.specs.Lexeme.{Lex}
 use Rattle.xq_lexer.specs.Spelling.{Spells}
 use Rattle.xq_expressions.specs.declared.expressions.Expr.{Expr}
 use Rattle.xq_parser.specs.Grammar.{Derives}
@@ -20,8 +20,8 @@ use Rattle.xq_readback.specs.Legible.{AreLegible, AreTrees}
 -- trees.
 abbrev pub ResultsAreLegible : Type 0
 ResultsAreLegible =
-    (characters : List ℕ) (tokens : List Placed) (query : Expr) → Spells characters tokens
-    → Derives (map (λ t. t.lex) tokens) query
+    (characters : List ℕ) (tokens : List Lex) (query : Expr) → Spells characters tokens
+    → Derives tokens query
     → (addresses : List Text) (trees : List Tree) → AreTrees trees
     → (xs : List Item) (now : List Tree) → evaluated query addresses trees ≡ (Ok xs, now)
     → AreLegible xs × AreTrees now

@@ -13,9 +13,9 @@ use Rattle.xq_lexer.specs.declared.runs.Class.{Class}
 use Rattle.xq_lexer.specs.declared.runs.Class.TheVariants.{Name, Digit, HexDigit, Plain}
 use Rattle.xq_atoms.specs.Characters.{is_char, is_digit, is_name_char}
 use Rattle.xq_lexer.specs.Chars.{Text, is_hex}
-use Rattle.xq_lexer.specs.Lexeme.{Lex, int, dec, placed, place_of}
+use Rattle.xq_lexer.specs.Lexeme.{Lex, int, dec, lex_of, lexemes}
 use Rattle.xq_lexer.specs.Literals.{Number, integer, decimal, Reference, referred, is_plain, piece_char}
-use Rattle.xq_lexer.specs.Spelling.{Form, form_lex, Next, Spells, bytes}
+use Rattle.xq_lexer.specs.Spelling.{Form, form_lex, Next, Spells}
 use Rattle.xq_lexer.specs.Separators.{skip}
 use Rattle.xq_lexer.specs.TokenFaults.{FaultHere, HasFault}
 use Rattle.xq_lexer.specs.declared.tokens.Token.{Token}
@@ -88,15 +88,14 @@ valued_lex true t = lex_by dec (decimal_literal t)
 valued_lex false t = lex_by int (integer_literal t)
 
 -- the next token, None at the end of the text, or the fault there
-abbrev pub Nexts : ℕ → Text → Result (Option (Token × Bor Text)) Fault → Type 0
-Nexts place text (Ok None) = skip 0 text ≡ Some []
-Nexts place text (Ok (Some x)) = Next (place + bytes text) text (place_of x.0) x.1.now
-    × (length x.1.now < length text)
-Nexts place text (Err (OfCode c)) = FaultHere text c
-Nexts place text (Err (OfWant w)) = w ≡ Memory
+abbrev pub Nexts : Text → Result (Option (Token × Bor Text)) Fault → Type 0
+Nexts text (Ok None) = skip 0 text ≡ Some []
+Nexts text (Ok (Some x)) = Next text (lex_of x.0) x.1.now × (length x.1.now < length text)
+Nexts text (Err (OfCode c)) = FaultHere text c
+Nexts text (Err (OfWant w)) = w ≡ Memory
 
 -- all tokens, or the fault
 abbrev pub Lexes : Text → Result (Vec Token Global) Fault → Type 0
-Lexes text (Ok v) = Spells text (placed v.items)
+Lexes text (Ok v) = Spells text (lexemes v.items)
 Lexes text (Err (OfCode c)) = HasFault text c
 Lexes text (Err (OfWant w)) = w ≡ Memory

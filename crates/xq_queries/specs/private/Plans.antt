@@ -3,18 +3,18 @@ use Rattle.std.specs.Prelude.{◌≡◌, ℕ, List, Result, Ok, Err}
 use Rattle.xq_atoms.specs.declared.refusals.Fault.{Fault}
 use Rattle.xq_atoms.specs.declared.refusals.Fault.TheVariants.{Code as OfCode, Want as OfWant}
 use Rattle.xq_atoms.specs.declared.refusals.Want.TheVariants.{Memory}
-use Rattle.xq_lexer.specs.Lexeme.{Lex, Placed}
+use Rattle.xq_lexer.specs.Lexeme.{Lex}
 use Rattle.xq_lexer.specs.Spelling.{Spells}
 use Rattle.xq_expressions.specs.declared.expressions.Expr.{Expr}
 use Rattle.xq_meaning.specs.declared.plans.Plan.{Plan}
-use Rattle.xq_queries.specs.Reading.{lexemes, CharactersFault, TokensFault, TokensRead}
+use Rattle.xq_queries.specs.Reading.{CharactersFault, TokensFault, TokensRead}
 use Rattle.xq_queries.specs.Scans.{ScansItsDocument}
 use Rattle.xq_queries.specs.Values.{IsPlanOf}
 
 -- the characters give this expression, or a fault
 abbrev pub Parses : List ℕ → Result Expr Fault → Type 0
 Parses text (Ok e) =
-    (tokens : List Placed) × Spells text tokens × TokensRead (lexemes tokens) e
+    (tokens : List Lex) × Spells text tokens × TokensRead tokens e
 Parses text (Err (OfCode code)) = CharactersFault text code
 Parses text (Err (OfWant want)) = want ≡ Memory
 

@@ -19,12 +19,6 @@ passed-requires-clause-suffix c =
     let s = skip_suffix c.args.chars.now c.in_ok-begun.begun.now c.in_ok-begun.ensures in
     (s.front, s.whole)
 
-pub passed-requires-2-clause-suffix : goal.passed-requires-2-clause-suffix
-passed-requires-2-clause-suffix c =
-    let some = some_left c.in_ok-begun.begun.now c.if-is_empty.ensures in
-    let r = was_read c.in_ok-begun.begun.now (lex_of c.in_ok-lexeme.lexeme) c.in_ok-lexeme.rest.now some c.in_ok-lexeme.ensures in
-    (_, r.found.whole)
-
 pub token-requires-clause-spelled : goal.token-requires-clause-spelled
 token-requires-clause-spelled c =
     let s = skip_suffix c.args.chars.now c.in_ok-begun.begun.now c.in_ok-begun.ensures in
@@ -34,11 +28,11 @@ pub returns : goal.returns
 returns c =
     let z = c.in_ok-begun.begun.now in
     let some = some_left z c.if-is_empty.ensures in
-    let r = was_read z (lex_of c.in_ok-lexeme.lexeme) c.in_ok-lexeme.rest.now some c.in_ok-lexeme.ensures in
-    next_is c.args.place c.args.chars.now z (lex_of c.in_ok-lexeme.lexeme) c.in_ok-lexeme.rest.now _ _ c.in_ok-begun.ensures r (omega (arith, c.passed.ensures)) (omega (arith, c.passed.ensures, c.passed-2.ensures))
+    let r = was_read z (lex_of c.in_ok-token.token) c.in_ok-token.rest.now some c.in_ok-token.ensures in
+    next_is c.args.chars.now z (lex_of c.in_ok-token.token) c.in_ok-token.rest.now c.in_ok-begun.ensures r
 
-pub returns-in_err-lexeme : goal.returns-in_err-lexeme
-returns-in_err-lexeme c =
+pub returns-in_err-token : goal.returns-in_err-token
+returns-in_err-token c =
     let some = some_left c.in_ok-begun.begun.now c.if-is_empty.ensures in
-    let p = err_from_is_err_and c.from_residual-in_err-lexeme.result c.from_residual-in_err-lexeme.ensures.1 in
-    rw (p.1, p.2) (step_fault c.args.place c.args.chars.now c.in_ok-begun.begun.now c.in_err-lexeme.field-0.0 c.in_ok-begun.ensures some c.in_err-lexeme.ensures)
+    let p = err_from_is_err_and c.from_residual-in_err-token.result c.from_residual-in_err-token.ensures.1 in
+    rw (p.1, p.2) (step_fault c.args.chars.now c.in_ok-begun.begun.now c.in_err-token.field-0.0 c.in_ok-begun.ensures some c.in_err-token.ensures)
