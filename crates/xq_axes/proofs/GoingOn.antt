@@ -231,7 +231,7 @@ meet_deepest levels level m new waits e h =
     ]
 
 -- the next context comes after the place
-after_last : (vs : List ℕ) (met last : ℕ) → is_within (slice_get vs met) last ≡ false → met < length vs → last < get_or vs met 0
+pub after_last : (vs : List ℕ) (met last : ℕ) → is_within (slice_get vs met) last ≡ false → met < length vs → last < get_or vs met 0
 after_last vs met last e l = by (slice_get vs met) refl
   where
     by : (o : Option ℕ) → slice_get vs met ≡ o → last < get_or vs met 0

@@ -152,7 +152,7 @@ among_same us u n h = same_test (is_among us n) (eqb u n || is_among us n) (or_r
 
 -- # The parents of all
 
-length-rows : (t : Tree) → length (rows t) ≡ count (nodes t)
+pub length-rows : (t : Tree) → length (rows t) ≡ count (nodes t)
 length-rows t = length-labels (measured 0 (nodes t)) ∙ count-measured 0 (nodes t)
 
 -- us has the parents that were told, of all places or of all after the root

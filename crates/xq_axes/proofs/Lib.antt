@@ -25,6 +25,7 @@ pub mod Deepest
 pub mod Looking
 pub mod GoingOn
 pub mod KnownParents
+pub mod Ancestors
 pub mod AxisNodes
 pub mod DoubleSlash
 pub mod OneNode

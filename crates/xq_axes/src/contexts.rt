@@ -3,7 +3,10 @@ ghost use Rattle.std.specs.Prelude.{◌≡◌, ◌≤◌, ◌+◌, length, slice
 ghost use Rattle.xq_axes.specs.private.Hits.{is_among, IsRising, IsReached};
 ghost use Rattle.xq_axes.specs.private.Downward.{stop as stop_lem};
 ghost use Rattle.xq_axes.specs.private.Passing.{is_next_within as is_next_within_lem};
-ghost use Rattle.xq_axes.specs.private.Waiting.{latest as latest_lem};
+ghost use Rattle.xq_axes.specs.private.Waiting.{latest as latest_lem, rows_below};
+
+use crate::passing::end_of_row;
+use xq_sources::LentRow;
 
 /// Places in document order, of which those before an index were met.
 #[derive(Clone, Copy)]
@@ -56,6 +59,18 @@ impl<'a> Contexts<'a> {
             None => false,
             Some(next) => u64::from(next) <= end,
         }
+    }
+
+    /// How many of the rows right after the row, which was met, need no look where only those with
+    /// contexts below them do: all below it, up to the last that is read, where they hold none.
+    pub fn rows_over(&self, row: &LentRow<'_>, last: u32) -> u32
+        ensures { result ≡ rows_below (slice_get self.now.places.now self.now.met)
+            row.now.pre row.now.size last }
+    {
+        if self.is_next_within(end_of_row(row)) {
+            return 0;
+        }
+        row.size.min(last.saturating_sub(row.pre))
     }
 
     /// The last place before those that were not met yet, or `last` where that is less.

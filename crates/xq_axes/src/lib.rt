@@ -5,6 +5,7 @@ mod attributes;
 mod axis_order;
 mod backward;
 mod children;
+mod climbing;
 mod contexts;
 mod copies;
 mod downward;

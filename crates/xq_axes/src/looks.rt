@@ -16,16 +16,13 @@ ghost use Rattle.xq_axes.specs.private.Hits.{is_wanted, below_where, IsRising};
 use crate::children::find_among;
 use crate::downward::{MANY_ROWS, ToDescendants, search_below};
 use crate::names::{PART, places_between, wanted_name};
-use crate::parents::parent_of;
+use crate::parents::{LEVELS, parent_of};
 use crate::passing::end_of_node;
 use crate::picks::{Found, Places};
 use std::alloc::Global;
 use xq_atoms::Want;
 use xq_meaning::Test;
 use xq_sources::RowLender;
-
-/// How many levels a tree may have: so often at most a parent is asked for.
-const LEVELS: usize = 101;
 
 /// At how many rows it is asked whether they are below one of many nodes.
 const SAMPLE: u32 = 8;

@@ -62,7 +62,7 @@ impl Judge for Onward<'_> {
         let is_awaited = self.levels.meet(u64::from(row.level), waits)?;
         Ok(Verdict {
             is_hit: is_sibling(is_awaited, is_plain),
-            over: self.rows_over(row),
+            over: self.contexts.rows_over(row, self.last),
         })
     }
 }
@@ -79,19 +79,6 @@ impl<'a> Onward<'a> {
             levels: Levels::new(alloc),
             last: 0,
         }
-    }
-
-    /// How many of the rows right after the row, which was met, are siblings of no context: all
-    /// below it, up to the last that is read, where they hold none.
-    fn rows_over(&self, row: &LentRow<'_>) -> u32
-        ensures { result ≡ rows_below (slice_get self.now.contexts.places.now self.now.contexts.met)
-            row.now.pre row.now.size self.now.last }
-    {
-        let end = end_of_row(row);
-        if self.contexts.is_next_within(end) {
-            return 0;
-        }
-        row.size.min(self.last.saturating_sub(row.pre))
     }
 
     /// The row that is read next, where those before `next` were: the next context where no row is

@@ -18,6 +18,9 @@ use xq_atoms::Want;
 use xq_meaning::Test;
 use xq_sources::{RowLender, told_parent};
 
+/// How many levels a tree may have: so often at most a parent is asked for.
+pub const LEVELS: usize = 101;
+
 /// Whether all of the places, which rise, come before the place.
 fn ends_before(places: &[u32], place: u32) -> bool
     ensures { result ≡ ends_before_lem (slice_get places.now (length places.now - 1)) place }

@@ -10,6 +10,7 @@ ghost use Rattle.xq_axes.specs.Reads.{span, span_end};
 ghost use Rattle.xq_axes.specs.private.Hits.{is_wanted, below_where, IsRising, IsReached};
 ghost use Rattle.xq_axes.specs.private.Passing.{axis_above, IsEnd, IsLast, IsLeastEnd};
 
+use crate::climbing::{climb, search_climbed};
 use crate::contexts::Contexts;
 use crate::picks::{Found, Judge, Picker, Places, Verdict};
 use crate::tests::is_plain;
@@ -132,6 +133,8 @@ pub fn last_of(places: &[u32]) -> Option<u32>
 struct Above<'a> {
     contexts: Contexts<'a>,
     or_self: bool,
+    /// The last place of the rows that are read.
+    last: u32,
 }
 
 impl Judge for Above<'_> {
@@ -139,7 +142,7 @@ impl Judge for Above<'_> {
 
     ghost contexts = { λ j. j.contexts.places.now };
 
-    ghost has_judged = { λ start now t s n. (now.or_self ≡ start.or_self)
+    ghost has_judged = { λ start now t s n. (now.or_self ≡ start.or_self) × (now.last ≡ s.high)
         × (now.contexts.places.now ≡ start.contexts.places.now)
         × IsRising start.contexts.places.now
         × IsReached start.contexts.places.now now.contexts.met n };
@@ -149,7 +152,7 @@ impl Judge for Above<'_> {
         let is_above = self.contexts.is_next_within(end_of_row(row));
         Ok(Verdict {
             is_hit: is_counted(self.or_self, is_context, is_above),
-            over: 0,
+            over: self.contexts.rows_over(row, self.last),
         })
     }
 }
@@ -216,9 +219,9 @@ pub fn search_before<L: RowLender>(
     }
 }
 
-/// The places of the nodes that are on the ancestor axis from one of the places, or on the
-/// ancestor-or-self axis, and pass the test.
-pub fn search_above<L: RowLender>(
+/// The places of the nodes that are above one of the places, or its own as well, and pass the test.
+/// No row is read of what lies below nodes that hold no context.
+fn walk_above<L: RowLender>(
     alloc: Global,
     source: &mut L,
     tree: usize,
@@ -242,17 +245,45 @@ pub fn search_above<L: RowLender>(
         None => Ok(Places::new(alloc)),
         Some(last) => {
             let contexts = Contexts::new(places);
-            search_rows(
-                alloc,
-                source,
-                tree,
-                0,
+            let judge = Above {
+                contexts,
+                or_self,
                 last,
-                Above { contexts, or_self },
-                test,
-            )
+            };
+            search_rows(alloc, source, tree, 0, last, judge, test)
         }
     }
+}
+
+/// The places of the nodes that are on the ancestor axis from one of the places, or on the
+/// ancestor-or-self axis, and pass the test. From one node whose parents the source tells the rows
+/// above it are read, and no others.
+pub fn search_above<L: RowLender>(
+    alloc: Global,
+    source: &mut L,
+    tree: usize,
+    or_self: bool,
+    places: &[u32],
+    test: &Test,
+) -> Result<Places, Want>
+    ensures found { L.is_clean source.new
+        → let t = tree_at (L.forest source.old) tree in
+        IsRising places.now → IfOk result (λ found. found.items
+        ≡ below_where (is_wanted (axis_above or_self) test.now t places.now) (count (nodes t))) }
+    ensures rows { L.is_clean source.new → IsRising places.now
+        → (L.meter source.new).rows ≤ (L.meter source.old).rows
+        + length (region (axis_above or_self) (tree_at (L.forest source.old) tree) places.now) }
+    ensures singles { (L.meter source.new).singles ≡ (L.meter source.old).singles }
+    ensures looks { (L.meter source.new).looks ≡ (L.meter source.old).looks }
+    ensures keeps { L.forest source.new ≡ L.forest source.old }
+    ensures was_clean { L.is_clean source.new → L.is_clean source.old }
+{
+    if let [place] = places
+        && let Some(above) = climb(alloc, source, tree, *place)?
+    {
+        return search_climbed(alloc, source, tree, or_self, *place, above, test);
+    }
+    walk_above(alloc, source, tree, or_self, places, test)
 }
 
 /// The least place of the last rows that are one of the nodes or below it.

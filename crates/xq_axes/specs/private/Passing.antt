@@ -3,7 +3,11 @@ use Rattle.std.specs.Prelude.{ℕ, ◌<◌, ◌≤◌, ◌≡◌, List, Bool, tr
 use Rattle.xq_trees.specs.declared.Axis.{Axis}
 use Rattle.xq_trees.specs.declared.Axis.TheVariants as axis
 use Rattle.xq_trees.specs.Tree.{Tree, IsTree, nodes}
+use Rattle.xq_trees.specs.Rows.{rows}
+use Rattle.xq_trees.specs.RegionTests.{inside}
 use Rattle.xq_trees.specs.Forest.{count}
+use Rattle.xq_axes.specs.Reads.{Span}
+use Rattle.xq_axes.specs.private.Hits.{is_among, is_hit, below_where, IsRising}
 use Rattle.xq_axes.specs.private.Downward.{end_of, is_within}
 
 -- the greatest of the places
@@ -34,3 +38,13 @@ axis_above false = axis.Ancestor
 
 abbrev pub is_next_within : List ℕ → ℕ → ℕ → Bool
 is_next_within vs index last = is_within (slice_get vs index) last
+
+-- the places of the nodes above v, from the root down
+abbrev pub places_above : Tree → ℕ → List ℕ
+places_above t v = below_where (λ p. inside (rows t) p v) v
+
+-- these places are those on the axis from the contexts, and the span ends within the tree
+pub record AreHits (a : Axis) (t : Tree) (vs : List ℕ) (s : Span) (hits : List ℕ) : Type 0 where
+  pub within : s.high < count (nodes t)
+  pub rising : IsRising hits
+  pub are : (p : ℕ) → is_among hits p ≡ is_hit a t vs p

@@ -10,7 +10,7 @@ use Rattle.xq_axes.proofs.Lists.{got_none, reached_none}
 use Rattle.xq_axes.proofs.Sizes.{OnOk-if}
 use Rattle.xq_axes.proofs.Ranges.{empty_step, last_is, above_all}
 use Rattle.xq_axes.proofs.Scans.{above_bound}
-use Rattle.xq_axes.proofs.passing.search_above.Goals as goal
+use Rattle.xq_axes.proofs.passing.walk_above.Goals as goal
 
 pub returns-in-None-clause-found : goal.returns-in-None-clause-found
 returns-in-None-clause-found g c = λ k up. (
@@ -31,7 +31,7 @@ returns-in-Some-clause-found g c = λ k up. (
     let l = last_is vs last up (sym c.in-Some.ensures) in
     let m = span_end t (span 0 last) in
     let reached = subst (λ i. IsReached us i 0) (sym c.new-contexts.ensures.met) (reached_none us) in
-    let w = c.search_rows.ensures.found k (refl, refl, subst (λ ws. IsRising ws) (sym same) up, reached) refl in
+    let w = c.search_rows.ensures.found k (refl, refl, refl, subst (λ ws. IsRising ws) (sym same) up, reached) refl in
     OnOk-if c.search_rows.result (λ (found : SmallVec ℕ). found.items ≡ below_where (is_wanted a test t us) m) (λ (found : SmallVec ℕ). found.items ≡ below_where (is_wanted a test t vs) (count (nodes t)))
     (λ found e. e ∙ ap (λ ws. below_where (is_wanted a test t ws) m) same ∙ above_all c.args.or_self test t vs last l) w)
 
