@@ -33,7 +33,8 @@ ELEMENTS = 414_491
 
 # Where the store's source says how many bytes are kept at most, as 128 << 20.
 ROOM = pathlib.Path(HERE, "..", "crates", "xq_store", "src", "room.rt")
-MOST_KEPT = re.compile(r"^const MOST_KEPT: usize = (\d+) << (\d+);$", re.MULTILINE)
+MOST_KEPT = re.compile(r"^pub\(crate\) const USUAL_BOUND: usize = (\d+) << (\d+);$",
+                       re.MULTILINE)
 
 
 @dataclasses.dataclass

@@ -9,7 +9,7 @@ use std::process::ExitCode;
 use std::rt::Env;
 use std::{env, io};
 use xq_command::endings::outcome;
-use xq_command::tasks::Asked;
+use xq_command::tasks::{Asked, Task};
 use xq_command::words::asked;
 use xq_databases::{DiskStore, MemoryStore};
 use xq_server::{End, Server};
@@ -33,8 +33,11 @@ fn main(rt: HostRuntime) -> ExitCode {
 /// Does the program's work, and gives its exit status and its line on standard error.
 fn conclusion(rt: &HostRuntime) -> (u8, &'static str) {
     match asked_by_arguments(rt) {
-        Asked::InMemory => serve_in_memory(rt),
-        Asked::File(path) => serve_file(rt, path.as_str()),
+        Asked::Serve(Task { file: None, kept }) => serve_in_memory(rt, kept),
+        Asked::Serve(Task {
+            file: Some(path),
+            kept,
+        }) => serve_file(rt, path.as_str(), kept),
         Asked::Help(text) => outcome(print_help(rt, text.as_str())),
         Asked::Bad => (2, "xq_server: bad command line"),
         Asked::NoRoom => outcome(End::NoRoom),
@@ -78,23 +81,34 @@ fn print_help<R: Print>(rt: &R, text: &str) -> End {
 }
 
 /// Serves a database in memory: the exit status, and the line on standard error.
-fn serve_in_memory<R: Input + Print + AllocGlobal>(rt: &R) -> (u8, &'static str) {
+fn serve_in_memory<R: Input + Print + AllocGlobal>(
+    rt: &R,
+    kept: Option<usize>,
+) -> (u8, &'static str) {
     let Ok(memory) = MemoryStore::new(rt.alloc()) else {
         return CANNOT_OPEN;
     };
-    let (store, end) = serve(rt, memory.into_store());
+    let (store, end) = serve(rt, keeping(memory.into_store(), kept));
     let _ended = MemoryStore { store };
     outcome(end)
 }
 
 /// Serves the database in the file: the exit status, and the line on standard error.
-fn serve_file(rt: &HostRuntime, path: &str) -> (u8, &'static str) {
+fn serve_file(rt: &HostRuntime, path: &str, kept: Option<usize>) -> (u8, &'static str) {
     let Some(file) = DiskStore::open(rt, path) else {
         return CANNOT_OPEN;
     };
-    let (store, end) = serve(rt, file.into_store());
+    let (store, end) = serve(rt, keeping(file.into_store(), kept));
     let _is_closed = DiskStore { store }.close();
     outcome(end)
+}
+
+/// The store, which keeps so many bytes of what queries read, where that is said.
+fn keeping<S: Alter>(store: Store<S>, kept: Option<usize>) -> Store<S> {
+    match kept {
+        Some(bytes) => store.keeping(bytes),
+        None => store,
+    }
 }
 
 /// Answers the frames of standard input over the store, and gives it back.

@@ -16,7 +16,7 @@ ghost use Rattle.xq_sources.specs.Names.{named};
 ghost use Rattle.xq_sources.specs.Parents.{AreParents, IsParentRow};
 ghost use Rattle.xq_sources.specs.Sources.{tree_at};
 
-use crate::room::make_room;
+use crate::room::{is_chosen, make_room};
 use crate::shelves::{Cache, CachedDocument, address_at, all_of, are_whole};
 use crate::stores::Store;
 use sqlite::Alter;
@@ -66,6 +66,9 @@ fn read_rows<S: Alter>(
     ensures alone { LeavesAlone S.Store store.old store.new }
 {
     while rows.len() <= place as usize {
+        if are_whole(&all_of(rows)) {
+            return Ok(());
+        }
         let low = rows.len() as u32;
         let high = low.saturating_add(PART - 1);
         let found = store.read_between(alloc, address, low, high)?;
@@ -226,7 +229,8 @@ pub(crate) fn kept_run(fronts: &[CachedDocument], run: RowRange) -> LentRows<'_>
     }
 }
 
-/// Whether the rows that are kept of a tree reach a place. They are wanted now.
+/// Whether the rows that are kept of a tree reach a place. They are wanted now, and again where they
+/// were wanted before.
 fn has_reached(shelf: &mut Cache, tree: usize, place: u32) -> bool
     ensures reached { IsTrue result → (trees : List Tree) → AreFronts trees shelf.old.fronts.items
         → HasReached trees shelf.new.fronts.items tree place }
@@ -238,7 +242,7 @@ fn has_reached(shelf: &mut Cache, tree: usize, place: u32) -> bool
     let Some(front) = shelf.fronts.get_mut(tree) else {
         return false;
     };
-    front.wanted = shelf.clock;
+    front.want(shelf.clock);
     front.rows.len() > place as usize
 }
 
@@ -270,18 +274,19 @@ pub(crate) fn read_on<S: Alter>(
     if has_reached(shelf, tree, place) {
         return Ok(());
     }
-    make_room(alloc, shelf, tree, 0);
+    make_room(alloc, shelf, tree, 0, store.bound);
     let Some(address) = address_at(&shelf.addresses, tree) else {
         return Err(Want::Store);
     };
     let Some(front) = shelf.fronts.get_mut(tree) else {
         return Err(Want::Store);
     };
+    shelf.clock = shelf.clock.saturating_add(1);
+    front.read_at(shelf.clock, is_chosen(shelf.clock));
     let before = front.bytes();
     let read = read_front(alloc, store, address, front, place);
     let more = front.bytes().saturating_sub(before);
     shelf.kept = shelf.kept.saturating_add(more);
-    shelf.clock = shelf.clock.saturating_add(1);
     shelf.stays &= read.is_ok();
     read
 }

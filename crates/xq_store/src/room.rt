@@ -7,12 +7,38 @@ ghost use Rattle.xq_store.specs.private.Shelves.{AreFronts};
 use crate::shelves::{Cache, CachedDocument};
 use std::alloc::Global;
 
-/// How many bytes are kept of all documents together. Where there are more, those that were wanted
-/// longest ago are forgotten before one is read on.
-const MOST_KEPT: usize = 128 << 20;
+/// How many bytes are kept of all documents together where nobody asks for another bound.
+pub(crate) const USUAL_BOUND: usize = 128 << 20;
 
-/// How many are left then: what comes next finds room for a while without a look at all documents.
-const LEFT: usize = 96 << 20;
+/// Such a part of the bound is free once documents were forgotten: what comes next finds room for a
+/// while without a look at all documents.
+const FREED: usize = 32;
+
+/// Of so many documents that are read one counts as asked for again at once. So documents that are
+/// in use now come to stay, where those that were in use before fill all the room.
+const CHOSEN: u64 = 16;
+
+/// The least rank of a document that was asked for again.
+const AGAIN: u64 = 1 << 63;
+
+/// Whether a document that is read at a time counts as asked for again.
+pub(crate) fn is_chosen(time: u64) -> bool {
+    time % CHOSEN == 0
+}
+
+/// The rank of a document among those that may be forgotten: that of the least rank goes first.
+///
+/// Those that were asked for once go before those that were asked for again, and of them the one
+/// that was read last: so who goes over more documents than are kept, time after time, finds those
+/// of the first time. Of those that were asked for again the one that was wanted longest ago goes
+/// first.
+fn rank(front: &CachedDocument) -> u64 {
+    if front.is_wanted_again {
+        AGAIN.saturating_add(front.wanted)
+    } else {
+        (AGAIN - 1).saturating_sub(front.wanted)
+    }
+}
 
 /// How many bytes are kept of one document.
 fn bytes_of(fronts: &[CachedDocument], tree: usize) -> usize {
@@ -22,27 +48,27 @@ fn bytes_of(fronts: &[CachedDocument], tree: usize) -> usize {
     }
 }
 
-/// How many bytes are kept of the documents that were wanted at a time or later, but for one.
-fn bytes_since(fronts: &[CachedDocument], tree: usize, time: u64) -> usize {
+/// How many bytes are kept of the documents below a rank, but for one.
+fn bytes_below(fronts: &[CachedDocument], tree: usize, limit: u64) -> usize {
     let mut bytes = 0usize;
     for (other, front) in fronts.iter().enumerate() {
-        if other != tree && front.wanted >= time {
+        if other != tree && rank(front) < limit {
             bytes = bytes.saturating_add(front.bytes());
         }
     }
     bytes
 }
 
-/// The first time since when documents were wanted, but for one, that have room in so many bytes.
-fn first_with_room(shelf: &Cache, tree: usize, room: usize) -> u64 {
+/// The least rank below which documents, but for one, take so many bytes, or the greatest rank.
+fn least_limit(fronts: &[CachedDocument], tree: usize, bytes: usize) -> u64 {
     let mut low = 0u64;
-    let mut high = shelf.clock.saturating_add(1);
+    let mut high = u64::MAX;
     for _half in 0..u64::BITS {
         if low >= high {
             return high;
         }
         let middle = low.saturating_add(high.saturating_sub(low) / 2);
-        if bytes_since(&shelf.fronts, tree, middle) <= room {
+        if bytes_below(fronts, tree, middle) >= bytes {
             high = middle;
         } else {
             low = middle.saturating_add(1);
@@ -51,10 +77,10 @@ fn first_with_room(shelf: &Cache, tree: usize, room: usize) -> u64 {
     high
 }
 
-/// Whether rows are kept of a document that was wanted before a time, and not since.
-fn is_older(fronts: &[CachedDocument], tree: usize, time: u64) -> bool {
+/// Whether rows are kept of a document below a rank.
+fn is_below(fronts: &[CachedDocument], tree: usize, limit: u64) -> bool {
     match fronts.get(tree) {
-        Some(front) => front.wanted < time && !front.rows.is_empty(),
+        Some(front) => rank(front) < limit && !front.rows.is_empty(),
         None => false,
     }
 }
@@ -72,9 +98,9 @@ fn forget(alloc: Global, fronts: &mut Vec<CachedDocument>, tree: usize) -> usize
     count
 }
 
-/// Forgets those of the trees that were wanted before a time, but for one, until no more than so
-/// many bytes are kept.
-fn forget_older(alloc: Global, shelf: &mut Cache, tree: usize, time: u64, left: usize)
+/// Forgets those of the trees that are below a rank, but for one, until no more than so many bytes
+/// are kept.
+fn forget_below(alloc: Global, shelf: &mut Cache, tree: usize, limit: u64, left: usize)
     ensures addresses { shelf.new.addresses ≡ shelf.old.addresses }
     ensures fronts { (trees : List Tree) → AreFronts trees shelf.old.fronts.items
         → AreFronts trees shelf.new.fronts.items }
@@ -84,42 +110,47 @@ fn forget_older(alloc: Global, shelf: &mut Cache, tree: usize, time: u64, left: 
         if shelf.kept <= left {
             return;
         }
-        if other != tree && is_older(&shelf.fronts, other, time) {
+        if other != tree && is_below(&shelf.fronts, other, limit) {
             let count = forget(alloc, &mut shelf.fronts, other);
             shelf.kept = shelf.kept.saturating_sub(count);
         }
     }
 }
 
-/// Where too many bytes are kept, with so many that come, forgets those of the trees that were
-/// wanted longest ago, but for one tree.
-pub(crate) fn make_room(alloc: Global, shelf: &mut Cache, tree: usize, coming: usize)
+/// Where more bytes are kept than the bound, with so many that come, forgets documents of the least
+/// rank, but for one.
+pub(crate) fn make_room(alloc: Global, shelf: &mut Cache, tree: usize, coming: usize, bound: usize)
     ensures addresses { shelf.new.addresses ≡ shelf.old.addresses }
     ensures fronts { (trees : List Tree) → AreFronts trees shelf.old.fronts.items
         → AreFronts trees shelf.new.fronts.items }
     ensures stays { shelf.new.stays ≡ shelf.old.stays }
 {
     let own = bytes_of(&shelf.fronts, tree);
-    if shelf.kept <= own || shelf.kept.saturating_add(coming) <= MOST_KEPT {
+    if shelf.kept <= own || shelf.kept.saturating_add(coming) <= bound {
         return;
     }
-    let left = LEFT.saturating_sub(coming);
-    let time = first_with_room(shelf, tree, left.saturating_sub(own));
-    // All that are older still go, and then as many as have to of those that were wanted together.
-    forget_older(alloc, shelf, tree, time.saturating_sub(1), left);
-    forget_older(alloc, shelf, tree, time, left);
+    let left = bound.saturating_sub(bound / FREED).saturating_sub(coming);
+    let limit = least_limit(&shelf.fronts, tree, shelf.kept.saturating_sub(left));
+    // All that are below the last rank go, and then as many as have to of those that have it.
+    forget_below(alloc, shelf, tree, limit.saturating_sub(1), left);
+    forget_below(alloc, shelf, tree, limit, left);
 }
 
 /// What is kept, with room for so many bytes more as far as others can be forgotten. It is later
 /// then.
-pub(crate) fn with_room(alloc: Global, shelf: Option<Cache>, coming: usize) -> Option<Cache>
+pub(crate) fn with_room(
+    alloc: Global,
+    shelf: Option<Cache>,
+    coming: usize,
+    bound: usize,
+) -> Option<Cache>
     ensures { IfSome result (λ later. (earlier : Cache) × (shelf ≡ Some earlier)
         × (later.addresses ≡ earlier.addresses) × ((trees : List Tree)
         → AreFronts trees earlier.fronts.items → AreFronts trees later.fronts.items)) }
 {
     let mut shelf = shelf?;
     let none = shelf.fronts.len();
-    make_room(alloc, &mut shelf, none, coming);
+    make_room(alloc, &mut shelf, none, coming, bound);
     shelf.clock = shelf.clock.saturating_add(1);
     Some(shelf)
 }

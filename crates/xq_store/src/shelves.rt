@@ -31,6 +31,8 @@ pub(crate) struct CachedDocument {
     pub values: Values,
     /// When they were wanted last, by the clock of the shelf.
     pub wanted: u64,
+    /// Whether they were wanted again at a later time than that at which they came.
+    pub is_wanted_again: bool,
 }
 
 /// The addresses of the documents of a store, in the order of their bytes, and at the same place
@@ -41,7 +43,8 @@ pub(crate) struct Cache {
     pub fronts: Vec<CachedDocument>,
     /// How many bytes that are in all.
     pub kept: usize,
-    /// How often rows were wanted that had to be read, or a document came with its rows.
+    /// How often rows were wanted that had to be read, a document came with its rows, or a view
+    /// began.
     pub clock: u64,
     /// Whether the store may keep this when its view ends.
     pub stays: bool,
@@ -58,6 +61,7 @@ impl CachedDocument {
             names: HashMap::new(alloc),
             values: HashMap::new(alloc),
             wanted: 0,
+            is_wanted_again: false,
         }
     }
 
@@ -74,7 +78,24 @@ impl CachedDocument {
             names: HashMap::new(alloc),
             values: HashMap::new(alloc),
             wanted,
+            is_wanted_again: false,
         }
+    }
+
+    /// The rows are wanted at a time: again, where it is later than the time before.
+    pub fn want(&mut self, time: u64)
+        ensures { (t : Tree) → IsFrontOf t self.old → IsFrontOf t self.new }
+    {
+        self.is_wanted_again |= self.wanted < time && !self.rows.is_empty();
+        self.wanted = time;
+    }
+
+    /// Rows are read at a time, and may count as wanted again at once.
+    pub fn read_at(&mut self, time: u64, is_wanted_again: bool)
+        ensures { (t : Tree) → IsFrontOf t self.old → IsFrontOf t self.new }
+    {
+        self.is_wanted_again |= is_wanted_again;
+        self.wanted = time;
     }
 
     /// How many bytes are kept at most: rows with their values, and of each row the place of its

@@ -24,7 +24,7 @@ ghost use Rattle.xq_sources.specs.Sources.{rows_between, rows_enclosing};
 
 use crate::adoptions::adopt_tables;
 use crate::listings::list_shelf;
-use crate::room::with_room;
+use crate::room::{USUAL_BOUND, with_room};
 use crate::shelves::{Cache, CachedDocument, all_of, kept_of, time_of};
 use sqlite::{Alter, Connection, FileStore, MemStore};
 use std::alloc::Global;
@@ -51,6 +51,8 @@ pub struct Store<S: Alter> {
     conn: Connection<S>,
     /// What is kept of its tables.
     shelf: Option<Cache>,
+    /// How many bytes are kept at most, beside those of the document that was wanted last.
+    pub(crate) bound: usize,
 }
 
 impl<S: Alter> Model for Store<S> {
@@ -97,6 +99,7 @@ impl Store<MemStore> {
             alloc,
             conn,
             shelf: Cache::empty(alloc),
+            bound: USUAL_BOUND,
         })
     }
 }
@@ -119,6 +122,7 @@ impl Store<FileStore<MemoryDisk>> {
             alloc,
             conn,
             shelf: Cache::empty(alloc),
+            bound: USUAL_BOUND,
         })
     }
 }
@@ -162,9 +166,24 @@ impl<S: Alter> Store<S> {
             return Err((OpenFault::NotAStore, conn));
         };
         match adopt_tables(alloc, &mut conn, tables) {
-            Ok(shelf) => Ok(Store { alloc, conn, shelf }),
+            Ok(shelf) => Ok(Store {
+                alloc,
+                conn,
+                shelf,
+                bound: USUAL_BOUND,
+            }),
             Err(fault) => Err((fault, conn)),
         }
+    }
+
+    /// The store, which keeps at most so many bytes of what queries read of its documents, beside
+    /// those of the document that was wanted last. A store that nobody tells keeps 134,217,728.
+    pub fn keeping(self, bytes: usize) -> Store<S>
+        ensures { result ≡ self }
+    {
+        let mut store = self;
+        store.bound = bytes;
+        store
     }
 
     /// The addresses, each once, in the order of their bytes.
@@ -330,7 +349,8 @@ impl<S: Alter> Store<S> {
         let there = kept_of(&others, address);
         let rows = all_of(document.rows());
         let replaced = put_rows(self.alloc, &mut self.conn, address, &there, &rows)?;
-        let shelf = with_room(self.alloc, others, document.rows().bytes());
+        let coming = document.rows().bytes();
+        let shelf = with_room(self.alloc, others, coming, self.bound);
         let front = CachedDocument::whole(self.alloc, document, time_of(&shelf));
         self.shelf = shelf_with(shelf, address, front);
         Ok(Put::of(replaced))
@@ -365,6 +385,7 @@ impl<S: Alter> Store<S> {
             alloc: _,
             conn,
             shelf: _,
+            bound: _,
         } = self;
         conn
     }

@@ -104,13 +104,16 @@ impl<S: Alter> Store<S> {
     {
         let mut store = self;
         match store.take_shelf() {
-            Ok(shelf) => Ok(View {
-                store,
-                shelf,
-                meter: Meter::new(),
-                run: NO_ROWS,
-                origin: PhantomData,
-            }),
+            Ok(mut shelf) => {
+                shelf.clock = shelf.clock.saturating_add(1);
+                Ok(View {
+                    store,
+                    shelf,
+                    meter: Meter::new(),
+                    run: NO_ROWS,
+                    origin: PhantomData,
+                })
+            }
             Err(want) => Err((want, store)),
         }
     }

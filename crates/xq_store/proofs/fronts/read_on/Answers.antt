@@ -15,7 +15,7 @@ returns-clause-fronts g c = λ clean m stands trees listed are.
     let roomy = c.make_room.ensures.fronts trees (c.has_reached.ensures.fronts trees are) in
     let within : at < length fronts = omega (arith, c.in-Some-get_mut.ensures.variant.0 refl, c.make_room.new.shelf.fronts.ok.0) in
     let before = its_front trees fronts at c.in-Some-get_mut.front.now roomy within c.in-Some-get_mut.ensures.value in
-    fronts_set trees fronts at c.read_front-read.new.front roomy (c.read_front-read.ensures.front clean m stands (tree_at trees at) has before)
+    fronts_set trees fronts at c.read_front-read.new.front roomy (c.read_front-read.ensures.front clean m stands (tree_at trees at) has (c.read_at.ensures (tree_at trees at) before))
 
 pub returns-clause-reached : goal.returns-clause-reached
 returns-clause-reached g c = λ clean m stands trees listed are.
@@ -30,4 +30,4 @@ returns-clause-reached g c = λ clean m stands trees listed are.
     let many = as_many trees fronts roomy in
     on_ok_then (Reaches (tree_at trees at) c.args.place (kept_rows c.read_front-read.new.front)) (HasReached trees (set fronts at c.read_front-read.new.front) at c.args.place) c.read_front-read.result
     (λ reaches. record { tree_in = omega (arith, within, many); reaches = subst (Reaches (tree_at trees at) c.args.place) (sym (front_set fronts at c.read_front-read.new.front within)) reaches })
-    (c.read_front-read.ensures.reaches clean m stands (tree_at trees at) has before)
+    (c.read_front-read.ensures.reaches clean m stands (tree_at trees at) has (c.read_at.ensures (tree_at trees at) before))

@@ -1,7 +1,7 @@
 use Rattle.std.proofs.Common.{◌≡◌, List}
 use Rattle.xq_trees.specs.Tree.{Tree}
 use Rattle.xq_store.specs.private.Shelves.{AreFronts}
-use Rattle.xq_store.proofs.room.forget_older.Given as goal
+use Rattle.xq_store.proofs.room.forget_below.Given as goal
 
 abbrev pub invariant-loop-other : goal.invariant-loop-other
 invariant-loop-other l = record {
