@@ -112,7 +112,7 @@ one_among true n k = or_none (eqb n k)
 one_among false n k = refl
 
 -- a number is among those that pass, below a bound, where it passes
-among_below : (f : ℕ → Bool) (n k : ℕ) → k < n → is_among (below_where f n) k ≡ f k
+pub among_below : (f : ℕ → Bool) (n k : ℕ) → k < n → is_among (below_where f n) k ≡ f k
 among_below f zero k h = absurd (omega (arith, h))
 among_below f (suc n) k h =
     let split = list_any-append (λ v. eqb v k) (below_where f n) (cond (f n) (n ∷ []) []) ∙ ap (λ b. is_among (below_where f n) k || b) (one_among (f n) n k) in

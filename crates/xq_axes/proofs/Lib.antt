@@ -26,6 +26,7 @@ pub mod Looking
 pub mod GoingOn
 pub mod KnownParents
 pub mod Ancestors
+pub mod NamedAround
 pub mod AxisNodes
 pub mod DoubleSlash
 pub mod OneNode

@@ -189,7 +189,7 @@ named_below t name =
 
 -- # Elements with a name
 
-named_passes : (name : Text) (k : Kind) (of : Text) → (not (is_attribute k) && passes (tests.Element (Some name)) k of) ≡ (is_element k && text_eq name of)
+pub named_passes : (name : Text) (k : Kind) (of : Text) → (not (is_attribute k) && passes (tests.Element (Some name)) k of) ≡ (is_element k && text_eq name of)
 named_passes name kind.Document of = refl
 named_passes name kind.Element of = refl
 named_passes name kind.Attribute of = refl

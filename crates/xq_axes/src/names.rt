@@ -1,13 +1,15 @@
 //! Elements by their names, where the lender tells their places.
-ghost use Rattle.std.specs.Prelude.{◌≡◌, ◌++◌, ◌+◌, ◌<◌, ◌≤◌, ℕ, Bool, Some, true, false, length, IfOk, IfSome};
+ghost use Rattle.std.specs.Prelude.{◌≡◌, ◌++◌, ◌+◌, ◌<◌, ◌≤◌, [], ℕ, Bool, Some, true, false, not, filter, length, IfOk, IfSome};
 ghost use Rattle.xq_trees.specs.Forest.{count};
 ghost use Rattle.xq_trees.specs.Tree.{nodes};
 ghost use Rattle.xq_sources.specs.Sources.{tree_at};
 ghost use Rattle.xq_meaning.specs.declared.node_tests.Test.TheVariants as tests;
-ghost use Rattle.xq_axes.specs.private.Hits.{below_where, IsRising, IsReached};
+ghost use Rattle.xq_axes.specs.private.Hits.{below_where, is_among, IsRising, IsReached};
 ghost use Rattle.xq_axes.specs.private.Named.{IsPlainTest};
+ghost use Rattle.xq_axes.specs.private.Passing.{is_before_node, places_above};
 
-use crate::picks::Found;
+use crate::picks::{Found, Places, push_if};
+use std::alloc::Global;
 use xq_atoms::Want;
 use xq_meaning::Test;
 use xq_sources::RowLender;
@@ -49,6 +51,88 @@ pub fn wanted_name(test: &Test) -> Option<&str>
 /// name among all rows of the tree costs little more than one among these.
 pub fn is_large_part(low: u32, high: u32) -> bool {
     u64::from(high.saturating_sub(low)) * PART >= u64::from(high)
+}
+
+/// The places from `low` on of the elements that pass the test, where it asks for a name and the
+/// lender tells them: no row is read or looked at.
+pub fn named_from<L: RowLender>(
+    alloc: Global,
+    source: &L,
+    tree: usize,
+    low: u32,
+    test: &Test,
+) -> Result<Option<Places>, Want>
+    ensures { L.is_clean source.now
+        → let t = tree_at (L.forest source.now) tree in
+        low ≤ count (nodes t) → (wanted : ℕ → Bool)
+        → IsPlainTest wanted test.now t low (count (nodes t)) → below_where wanted low ≡ []
+        → IfOk result (λ told. IfSome told (λ found.
+        found.items ≡ below_where wanted (count (nodes t)))) }
+{
+    let Some(name) = wanted_name(test) else {
+        return Ok(None);
+    };
+    let Some(places) = source.named(tree, name) else {
+        return Ok(None);
+    };
+    let first = count_before(places, u64::from(low));
+    let mut found = Found::new(alloc);
+    found.extend(&places[first..])?;
+    Ok(Some(found.into_places()?))
+}
+
+/// Those of the places before the place, which rise, that are none of the others.
+fn before_without(
+    alloc: Global,
+    places: &[u32],
+    place: u32,
+    others: &[u32],
+) -> Result<Vec<u32>, Want>
+    ensures { (f : ℕ → Bool) (n : ℕ) → places.now ≡ below_where f n → place ≤ n
+        → IfOk result (λ kept. kept.items
+        ≡ filter (λ p. not (is_among others.now p)) (below_where f place)) }
+{
+    let last = count_before(places, u64::from(place));
+    keep_others(alloc, &places[..last], others)
+}
+
+/// Those of the places that are none of the others, which are few.
+fn keep_others(alloc: Global, places: &[u32], others: &[u32]) -> Result<Vec<u32>, Want>
+    ensures { IfOk result (λ kept. kept.items
+        ≡ filter (λ p. not (is_among others.now p)) places.now) }
+{
+    let mut kept = Vec::new(alloc);
+    for place in places {
+        push_if(&mut kept, !others.contains(place), *place)?;
+    }
+    Ok(kept)
+}
+
+/// The places of the elements that pass the test and end before the node, of which `above` are the
+/// places of those that hold it: where the test asks for a name and the lender tells them, no row is
+/// read or looked at.
+pub fn named_before<L: RowLender>(
+    alloc: Global,
+    source: &L,
+    tree: usize,
+    node: u32,
+    above: &[u32],
+    test: &Test,
+) -> Result<Option<Places>, Want>
+    ensures { L.is_clean source.now
+        → let t = tree_at (L.forest source.now) tree in
+        node < count (nodes t) → above.now ≡ places_above t node
+        → IfOk result (λ told. IfSome told (λ found.
+        found.items ≡ below_where (is_before_node test.now t node) node)) }
+{
+    let Some(name) = wanted_name(test) else {
+        return Ok(None);
+    };
+    let Some(places) = source.named(tree, name) else {
+        return Ok(None);
+    };
+    let kept = before_without(alloc, places, node, above)?;
+    Ok(Some(Places::from_vec(kept)))
 }
 
 /// Adds the places from `low` to `high` of the elements that pass the test, where it asks for a

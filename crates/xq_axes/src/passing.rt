@@ -12,6 +12,7 @@ ghost use Rattle.xq_axes.specs.private.Passing.{axis_above, IsEnd, IsLast, IsLea
 
 use crate::climbing::{climb, search_climbed};
 use crate::contexts::Contexts;
+use crate::names::{named_before, named_from};
 use crate::picks::{Found, Judge, Picker, Places, Verdict};
 use crate::tests::is_plain;
 use crate::walks::walk;
@@ -180,7 +181,45 @@ pub fn end_of_node<L: RowLender>(
     Ok(end_of_row(&row))
 }
 
+/// The places of the nodes that are on the preceding axis from one of the places, of which `last` is
+/// the last, and pass the test: the rows before it are read.
+fn walk_before<L: RowLender>(
+    alloc: Global,
+    source: &mut L,
+    tree: usize,
+    places: &[u32],
+    last: u32,
+    test: &Test,
+) -> Result<Places, Want>
+    ensures found { L.is_clean source.new
+        → let t = tree_at (L.forest source.old) tree in
+        IsLast places.now last → IfOk result (λ found. found.items
+        ≡ below_where (is_wanted axes.Preceding test.now t places.now) (count (nodes t))) }
+    ensures rows { L.is_clean source.new → IsLast places.now last
+        → (L.meter source.new).rows ≤ (L.meter source.old).rows
+        + length (region axes.Preceding (tree_at (L.forest source.old) tree) places.now) }
+    ensures singles { (L.meter source.new).singles ≡ (L.meter source.old).singles }
+    ensures looks { (L.meter source.new).looks ≡ (L.meter source.old).looks }
+    ensures keeps { L.forest source.new ≡ L.forest source.old }
+    ensures was_clean { L.is_clean source.new → L.is_clean source.old }
+{
+    if last == 0 {
+        return Ok(Places::new(alloc));
+    }
+    search_rows(
+        alloc,
+        source,
+        tree,
+        0,
+        last - 1,
+        Preceding { places, last },
+        test,
+    )
+}
+
 /// The places of the nodes that are on the preceding axis from one of the places and pass the test.
+/// No row is read where the test asks for a name, and the source tells where elements with that name
+/// are, and what is above the last of the places.
 pub fn search_before<L: RowLender>(
     alloc: Global,
     source: &mut L,
@@ -200,23 +239,15 @@ pub fn search_before<L: RowLender>(
     ensures keeps { L.forest source.new ≡ L.forest source.old }
     ensures was_clean { L.is_clean source.new → L.is_clean source.old }
 {
-    match last_of(places) {
-        None => Ok(Places::new(alloc)),
-        Some(last) => {
-            if last == 0 {
-                return Ok(Places::new(alloc));
-            }
-            search_rows(
-                alloc,
-                source,
-                tree,
-                0,
-                last - 1,
-                Preceding { places, last },
-                test,
-            )
-        }
+    let Some(last) = last_of(places) else {
+        return Ok(Places::new(alloc));
+    };
+    if let Some(above) = climb(alloc, source, tree, last)?
+        && let Some(found) = named_before(alloc, source, tree, last, &above, test)?
+    {
+        return Ok(found);
     }
+    walk_before(alloc, source, tree, places, last, test)
 }
 
 /// The places of the nodes that are above one of the places, or its own as well, and pass the test.
@@ -341,6 +372,9 @@ pub fn search_after<L: RowLender>(
         return Err(Want::Store);
     }
     let low = least as u32 + 1;
+    if let Some(found) = named_from(alloc, source, tree, low, test)? {
+        return Ok(found);
+    }
     search_rows(
         alloc,
         source,

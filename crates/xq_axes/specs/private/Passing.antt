@@ -1,13 +1,14 @@
 -- Axes to what is before, after and above the context nodes, judged row by row.
-use Rattle.std.specs.Prelude.{ℕ, ◌<◌, ◌≤◌, ◌≡◌, List, Bool, true, false, length, slice_index, slice_get}
+use Rattle.std.specs.Prelude.{ℕ, ◌<◌, ◌≤◌, ◌≡◌, List, Bool, true, false, ◌&&◌, nat_lt, length, slice_index, slice_get}
 use Rattle.xq_trees.specs.declared.Axis.{Axis}
 use Rattle.xq_trees.specs.declared.Axis.TheVariants as axis
 use Rattle.xq_trees.specs.Tree.{Tree, IsTree, nodes}
-use Rattle.xq_trees.specs.Rows.{rows}
-use Rattle.xq_trees.specs.RegionTests.{inside}
+use Rattle.xq_trees.specs.Rows.{row_at, rows}
+use Rattle.xq_trees.specs.RegionTests.{inside, plain_row}
+use Rattle.xq_meaning.specs.declared.node_tests.Test.{Test}
 use Rattle.xq_trees.specs.Forest.{count}
 use Rattle.xq_axes.specs.Reads.{Span}
-use Rattle.xq_axes.specs.private.Hits.{is_among, is_hit, below_where, IsRising}
+use Rattle.xq_axes.specs.private.Hits.{is_among, is_hit, row_passes, below_where, IsRising}
 use Rattle.xq_axes.specs.private.Downward.{end_of, is_within}
 
 -- the greatest of the places
@@ -48,3 +49,8 @@ pub record AreHits (a : Axis) (t : Tree) (vs : List ℕ) (s : Span) (hits : List
   pub within : s.high < count (nodes t)
   pub rising : IsRising hits
   pub are : (p : ℕ) → is_among hits p ≡ is_hit a t vs p
+
+-- p passes the test, is no attribute, and ends before v
+abbrev pub is_before_node : Test → Tree → ℕ → ℕ → Bool
+is_before_node test t v p =
+    (nat_lt (end_of t p) v && plain_row (rows t) p) && row_passes test (row_at (rows t) p)

@@ -1,4 +1,4 @@
-use Rattle.std.proofs.Common.{◌≡◌, ℕ, ◌+◌, ◌-◌, ◌<◌, ◌≤◌, length, sym, ap, subst, eqb-true, ◌∙◌, arith}
+use Rattle.std.proofs.Common.{◌≡◌, ℕ, ◌+◌, ◌-◌, ◌<◌, ◌≤◌, length, IfSome, sym, ap, subst, eqb-true, ◌∙◌, arith}
 use Rattle.smallvec.specs.SmallVec.{SmallVec}
 use Rattle.std.proofs.lemmas.Bool.{eqb-false}
 use Rattle.xq_trees.specs.Forest.{count}
@@ -10,6 +10,7 @@ use Rattle.xq_axes.specs.private.Hits.{is_wanted, below_where}
 use Rattle.xq_axes.specs.private.Passing.{IsLeastEnd}
 use Rattle.xq_axes.proofs.Sizes.{OnOk-if}
 use Rattle.xq_axes.proofs.Ranges.{empty_step, following_start, following_all}
+use Rattle.xq_axes.proofs.NamedAround.{plain_after}
 use Rattle.xq_axes.proofs.Scans.{after_bound}
 use Rattle.xq_axes.proofs.passing.search_after.Goals as goal
 
@@ -18,6 +19,21 @@ returns-then-is_empty-clause-found g c = λ k. (
     let vs = c.args.places.now in
     let t = tree_at (g.L.TreeSource.forest c.args.source.now) c.args.tree in
     c.new.ensures.items ∙ empty_step axis.Following c.args.test.now t vs (count (nodes t)) (eqb-true (length vs) 0 (sym c.is_empty.ensures ∙ c.if-is_empty.true)))
+
+pub returns-in-Some-clause-found : goal.returns-in-Some-clause-found
+returns-in-Some-clause-found g c = λ k. (
+    let vs = c.args.places.now in
+    let old = tree_at (g.L.TreeSource.forest c.least_end.new.source) c.args.tree in
+    let test = c.args.test.now in
+    let least = c.in_ok-least.least in
+    let none = eqb-false (length vs) 0 (sym c.is_empty.ensures ∙ c.if-is_empty.false) in
+    let some : 0 < length vs = omega (arith, none) in
+    let same = ap (λ f. tree_at f c.args.tree) c.in_ok-least.ensures.keeps in
+    let l_old = subst (λ u. IsLeastEnd u vs least) (sym same) (c.in_ok-least.ensures.least k some) in
+    let there = l_old.is_there in
+    let told = c.in_ok-found.ensures k (omega (arith, there)) (is_wanted axis.Following test old vs) (plain_after old vs test least (count (nodes old)) l_old) (following_start test old vs least l_old) in
+    subst (λ o. IfSome o (λ (found : SmallVec ℕ). found.items ≡ below_where (is_wanted axis.Following test old vs) (count (nodes old)))) c.in-Some.is told
+    ∙ ap (λ u. below_where (is_wanted axis.Following test u vs) (count (nodes u))) same)
 
 pub returns-clause-found : goal.returns-clause-found
 returns-clause-found g c = λ k. (
