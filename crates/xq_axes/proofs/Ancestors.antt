@@ -1,14 +1,13 @@
 -- What is above a node, climbed from parent to parent.
-use Rattle.std.proofs.Common.{◌≡◌, ℕ, zero, suc, ◌+◌, ◌-◌, ◌<◌, ◌≤◌, List, [], ◌∷◌, ◌++◌, length, get_or, min, Bool, true, false, ◌||◌, ◌&&◌, eqb, nat_eq, nat_lt, cond, inl, inr, refl, sym, ◌∙◌, ap, subst, arith}
+use Rattle.std.proofs.Common.{◌≡◌, ℕ, zero, suc, ◌+◌, ◌-◌, ◌<◌, ◌≤◌, List, [], ◌∷◌, ◌++◌, length, get_or, min, Bool, true, false, ◌||◌, ◌&&◌, eqb, cond, inl, inr, refl, sym, ◌∙◌, ap, subst, arith}
 use Rattle.std.specs.Prelude.{Option, Some, None, slice_get, reverse}
-use Rattle.std.proofs.lemmas.Bool.{cases_lt, cases_order, eqb-true, eq-eqb, ltb-true, or_cases, or_left, or_right, false_from_ne_true}
+use Rattle.std.proofs.lemmas.Bool.{cases_lt, eqb-true, eq-eqb, or_cases, false_from_ne_true}
 use Rattle.std.proofs.lemmas.List.{append-nil, append_assoc, reverse-append}
 use Rattle.std.proofs.lemmas.List.Folds.{list_any-append}
 use Rattle.std.specs.List.{list_any}
 use Rattle.xq_trees.specs.Forest.{count}
 use Rattle.xq_trees.specs.Tree.{Tree, nodes}
 use Rattle.xq_trees.specs.Rows.{rows, row_at}
-use Rattle.xq_trees.specs.Regions.{IsInside}
 use Rattle.xq_trees.specs.RegionTests.{inside, in_region}
 use Rattle.xq_trees.specs.declared.Axis.{Axis}
 use Rattle.xq_trees.specs.declared.Axis.TheVariants as axis

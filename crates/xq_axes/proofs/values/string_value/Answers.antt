@@ -1,4 +1,4 @@
-use Rattle.std.proofs.Common.{◌≡◌, ◌∙◌, ℕ, List, Result, Ok, Err, sym, ap, subst, arith, Global, String, string_bytes}
+use Rattle.std.proofs.Common.{◌≡◌, ◌∙◌, ℕ, Result, Ok, Err, sym, ap, subst, arith, Global, String, string_bytes}
 use Rattle.std.specs.Prelude.{IfOk, OnOk}
 use Rattle.xq_trees.specs.Rows.{Row, rows, row_at}
 use Rattle.xq_trees.specs.Value.{texts, string_value}
