@@ -2,6 +2,7 @@
 ghost use Rattle.std.specs.Prelude.{Some};
 ghost use Rattle.xq_expressions.specs.declared.expressions.Expr.TheVariants as e;
 ghost use Rattle.xq_parser.specs.Grammar as g;
+ghost use Rattle.xq_parser.specs.private.Behind as behind;
 ghost use Rattle.xq_parser.specs.private.Parses.{ParsesAs};
 
 use crate::lists::listed;
@@ -28,64 +29,30 @@ pub(crate) fn sequence(
     Ok(Boxed::new(alloc, Expr::Sequence(all))?)
 }
 
-/// An operand, or two and more with `or` between them.
-pub(crate) fn disjunction(
+/// An operand, or the list that a level makes of two and more.
+#[tactic(auto, unfolding(crate::specs::private::Behind::of_list))]
+pub(crate) fn joined(
     alloc: Global,
+    level: u8,
     first: Boxed<Expr>,
     more: Items<Expr>,
 ) -> Result<Boxed<Expr>, Fault>
-    ensures { ParsesAs (λ x. x) result (Some (g.several e.Or (first, more))) }
+    ensures { ParsesAs (λ x. x) result (Some (g.several (behind.of_list level) (first, more))) }
 {
     if more.len() == 0 {
         return Ok(first);
     }
     let all = listed(alloc, first.into_inner(), more)?;
-    Ok(Boxed::new(alloc, Expr::Or(all))?)
-}
-
-/// An operand, or two and more with `and` between them.
-pub(crate) fn conjunction(
-    alloc: Global,
-    first: Boxed<Expr>,
-    more: Items<Expr>,
-) -> Result<Boxed<Expr>, Fault>
-    ensures { ParsesAs (λ x. x) result (Some (g.several e.And (first, more))) }
-{
-    if more.len() == 0 {
-        return Ok(first);
-    }
-    let all = listed(alloc, first.into_inner(), more)?;
-    Ok(Boxed::new(alloc, Expr::And(all))?)
-}
-
-/// An operand, or two and more with `||` between them.
-pub(crate) fn concatenation(
-    alloc: Global,
-    first: Boxed<Expr>,
-    more: Items<Expr>,
-) -> Result<Boxed<Expr>, Fault>
-    ensures { ParsesAs (λ x. x) result (Some (g.several e.Concat (first, more))) }
-{
-    if more.len() == 0 {
-        return Ok(first);
-    }
-    let all = listed(alloc, first.into_inner(), more)?;
-    Ok(Boxed::new(alloc, Expr::Concat(all))?)
-}
-
-/// An operand, or the union of two and more.
-pub(crate) fn united(
-    alloc: Global,
-    first: Boxed<Expr>,
-    more: Items<Expr>,
-) -> Result<Boxed<Expr>, Fault>
-    ensures { ParsesAs (λ x. x) result (Some (g.several e.Union (first, more))) }
-{
-    if more.len() == 0 {
-        return Ok(first);
-    }
-    let all = listed(alloc, first.into_inner(), more)?;
-    Ok(Boxed::new(alloc, Expr::Union(all))?)
+    let value = if level == 2 {
+        Expr::Union(all)
+    } else if level == 6 {
+        Expr::Concat(all)
+    } else if level == 8 {
+        Expr::And(all)
+    } else {
+        Expr::Or(all)
+    };
+    Ok(Boxed::new(alloc, value)?)
 }
 
 /// An operand, or a sum.
@@ -163,34 +130,27 @@ pub(crate) fn simple_map(
     }
 }
 
-/// An operand, or a comparison of two.
+/// A comparison of two operands.
 pub(crate) fn compared(
     alloc: Global,
     left: Boxed<Expr>,
-    right: Option<(ComparisonOperator, Boxed<Expr>)>,
+    operator: ComparisonOperator,
+    right: Boxed<Expr>,
 ) -> Result<Boxed<Expr>, Fault>
-    ensures { ParsesAs (λ x. x) result (Some (g.compared (left, right))) }
+    ensures { ParsesAs (λ x. x) result (Some (g.compared (left, Some (operator, right)))) }
 {
-    match right {
-        None => Ok(left),
-        Some((operator, right)) => {
-            Ok(Boxed::new(alloc, Expr::Comparison(left, operator, right))?)
-        }
-    }
+    Ok(Boxed::new(alloc, Expr::Comparison(left, operator, right))?)
 }
 
-/// An operand, or the range between two.
+/// The range between two operands.
 pub(crate) fn ranged(
     alloc: Global,
     first: Boxed<Expr>,
-    last: Option<Boxed<Expr>>,
+    last: Boxed<Expr>,
 ) -> Result<Boxed<Expr>, Fault>
-    ensures { ParsesAs (λ x. x) result (Some (g.ranged (first, last))) }
+    ensures { ParsesAs (λ x. x) result (Some (g.ranged (first, Some last))) }
 {
-    match last {
-        None => Ok(first),
-        Some(last) => { Ok(Boxed::new(alloc, Expr::Range(first, last))?) }
-    }
+    Ok(Boxed::new(alloc, Expr::Range(first, last))?)
 }
 
 /// An operand with its signs, if there are any.
