@@ -114,20 +114,34 @@ module _ (single : Parser Expr) (x : Expr) where
   -- one level after another
   up_next : (ts : Tokens) (n : ℕ) (y : Expr) (us : Tokens) → b.up_to single n x ts ≡ Some (y, us) → b.up_to single (suc n) x ts ≡ b.at single (suc n) y us
   unfolding b.up_to
-  up_next ts n y us h = rw h refl
+  up_next ts n y us h = ap (λ (o : Outcome Expr). and_then o (b.at single (suc n))) h
+
+  up_next_none : (ts : Tokens) (n : ℕ) → b.up_to single n x ts ≡ None → b.up_to single (suc n) x ts ≡ None
+  unfolding b.up_to
+  up_next_none ts n h = ap (λ (o : Outcome Expr). and_then o (b.at single (suc n))) h
 
   pub up_first : (ts : Tokens) (y : Expr) (us : Tokens) → b.with_calls single x ts ≡ Some (y, us) → b.up_to single 0 x ts ≡ Some (y, us)
   unfolding b.up_to
   up_first ts y us h = h
 
-  pub up_first_fails : (ts : Tokens) (fault : Fault) → ParsesNot fault (b.with_calls single x ts) → ParsesNot fault (b.up_to single 0 x ts)
+  first_none : (ts : Tokens) → b.with_calls single x ts ≡ None → b.up_to single 0 x ts ≡ None
   unfolding b.up_to
-  up_first_fails ts fault h = h
+  first_none ts h = h
 
-  up_none : (ts : Tokens) (n k : ℕ) → b.up_to single n x ts ≡ None → b.up_to single (k + n) x ts ≡ None
-  unfolding b.up_to
-  up_none ts n zero h = h
-  up_none ts n (suc k) h = rw (up_none ts n k h) refl
+  up_none : (ts : Tokens) (n k : ℕ) → b.up_to single n x ts ≡ None → b.up_to single (n + k) x ts ≡ None
+  up_none ts n zero h = let same : n ≡ n + zero = omega arith in subst (λ (m : ℕ). b.up_to single m x ts ≡ None) same h
+  up_none ts n (suc k) h =
+      let more : suc (n + k) ≡ n + suc k = omega arith in
+      subst (λ (m : ℕ). b.up_to single m x ts ≡ None) more (up_next_none ts (n + k) (up_none ts n k h))
+
+  -- a fault of the calls is one of all
+  pub calls_fail : (ts : Tokens) (last : ℕ) (fault : Fault) → ParsesNot fault (b.with_calls single x ts) → ParsesNot fault (b.up_to single last x ts)
+  calls_fail ts last (OfWant Memory) h = tt
+  calls_fail ts last (OfWant Store) h = absurd h
+  calls_fail ts last (OfCode XPST0003) h =
+      let all : 0 + last ≡ last = omega arith in
+      subst (λ (m : ℕ). b.up_to single m x ts ≡ None) all (up_none ts 0 last (first_none ts h))
+  calls_fail ts last (OfCode _) h = absurd h
 
   -- a fault at a level is one of all
   pub up_fails : (ts : Tokens) (n last : ℕ) (y : Expr) (us : Tokens) (fault : Fault) → n < last → b.up_to single n x ts ≡ Some (y, us) → ParsesNot fault (b.at single (n + 1) y us) → ParsesNot fault (b.up_to single last x ts)
@@ -136,7 +150,7 @@ module _ (single : Parser Expr) (x : Expr) where
   up_fails ts n last y us (OfCode XPST0003) lt h f =
       let one : n + 1 ≡ suc n = omega arith in
       let none : b.up_to single (suc n) x ts ≡ None = up_next ts n y us h ∙ subst (λ (k : ℕ). b.at single k y us ≡ None) one f in
-      let many_more : (last - suc n) + suc n ≡ last = omega (arith, lt) in
+      let many_more : suc n + (last - suc n) ≡ last = omega (arith, lt) in
       subst (λ (k : ℕ). b.up_to single k x ts ≡ None) many_more (up_none ts (suc n) (last - suc n) none)
   up_fails ts n last y us (OfCode _) lt h f = absurd f
 

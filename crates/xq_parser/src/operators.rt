@@ -351,12 +351,13 @@ impl<
         let (mut found, mut rest) = self.grammar.with_calls(operand, tokens)?;
         let mut next = next_level(rest);
         for tighter in 0..self.level {
-            if next == tighter + 1 {
-                let (all, after) = self.at_level(next, found, rest)?;
-                found = all;
-                rest = after;
-                next = next_level(rest);
+            if next != tighter + 1 {
+                continue;
             }
+            let (all, after) = self.at_level(next, found, rest)?;
+            found = all;
+            rest = after;
+            next = next_level(rest);
         }
         Ok((found, rest))
     }

@@ -23,7 +23,7 @@ const MAX_DEPTH: usize = MAX_NESTING as usize + 1;
 /// A single expression, over what reads singles that nest deeper, and what reads the operands of its
 /// operators. Most are literals that stand by themselves, and those are read without a look at
 /// operators.
-#[tactic(auto, unfolding(crate::specs::private::Reading::any))]
+#[tactic(auto, unfolding(crate::specs::private::Reading::any, crate::specs::private::Reading::level))]
 fn any<
     'a,
     F: Fn(Global, usize, &'a [Token]) -> Result<(Boxed<Expr>, &'a [Token]), Fault> + Copy,
