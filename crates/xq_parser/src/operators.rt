@@ -8,11 +8,12 @@ ghost use Rattle.xq_parser.specs.private.Behind as behind;
 ghost use Rattle.xq_parser.specs.private.Reading as spec;
 ghost use Rattle.xq_parser.specs.private.Parses.{Nests, OperandReady, Operands, Parses, ParsesAs};
 
+use crate::levels::{AND, COMPARISON, CONCAT, PRODUCT, RANGE, SET, SUM, UNION, next_level};
 use crate::lists::{Repeated, many};
 use crate::lookahead::{ends_expression, expect_symbol, expect_word, is_symbol, is_word};
 use crate::primaries::Grammar;
 use crate::values::{
-    arrow, compared, joined, product, ranged, set_operation, signed, simple_map, sum,
+    Chains, arrow, chained, compared, joined, ranged, signed, simple_map,
 };
 use crate::words::{Listed, begins, one_of};
 use sqlite_items::{Boxed, Items};
@@ -21,59 +22,6 @@ use std::marker::PhantomData;
 use xq_atoms::Fault;
 use xq_expressions::{ComparisonOperator, Expr, ProductOperator, QName, SetOperator, Sign};
 use xq_lexer::{Symbol, Token};
-
-/// The level of `or`, which binds most loosely.
-pub(crate) const LOOSEST: u8 = 9;
-
-/// How loosely the word binds as an operator between operands, or 0 where it is none.
-#[tactic(auto, unfolding(crate::specs::Look::lookup, crate::specs::Look::same))]
-fn word_level(word: &str) -> u8
-    ensures { result ≡ spec.or_zero (look.lookup spec.word_levels (name_lex word.now)) }
-{
-    match word {
-        "intersect" | "except" => 1,
-        "union" => 2,
-        "div" | "idiv" | "mod" => 3,
-        "to" => 5,
-        "eq" | "ne" | "lt" | "le" | "gt" | "ge" | "is" => 7,
-        "and" => 8,
-        "or" => 9,
-        _ => 0,
-    }
-}
-
-/// How loosely the symbol binds as an operator between operands, or 0 where it is none.
-fn symbol_level(symbol: Symbol) -> u8
-    ensures { result ≡ spec.symbol_level symbol }
-{
-    match symbol {
-        Symbol::Bar => 2,
-        Symbol::Star => 3,
-        Symbol::Plus | Symbol::Minus => 4,
-        Symbol::DoubleBar => 6,
-        Symbol::Equal
-        | Symbol::NotEqual
-        | Symbol::Less
-        | Symbol::LessEqual
-        | Symbol::Greater
-        | Symbol::GreaterEqual
-        | Symbol::Precedes
-        | Symbol::Follows => 7,
-        _ => 0,
-    }
-}
-
-/// How loosely the next token binds as an operator between operands, or 0 where it is none.
-#[tactic(auto, unfolding(crate::specs::private::Reading::next_level, crate::specs::private::Reading::level_of))]
-fn next_level(tokens: &[Token]) -> u8
-    ensures { result ≡ spec.next_level (lexemes tokens.now) }
-{
-    match tokens {
-        [Token::Name(word), ..] => word_level(word.as_str()),
-        [Token::Sym(symbol), ..] => symbol_level(*symbol),
-        _ => 0,
-    }
-}
 
 /// The tokens after a sign of a union.
 #[tactic(auto, unfolding(crate::specs::private::Reading::union_sign))]
@@ -92,11 +40,11 @@ fn union_sign(tokens: &[Token]) -> Result<&[Token], Fault>
 fn joint(level: u8, tokens: &[Token]) -> Result<&[Token], Fault>
     ensures { ParsesAs (λ x. (tt, lexemes x.now)) result (behind.joint level (lexemes tokens.now)) }
 {
-    if level == 2 {
+    if level == UNION {
         union_sign(tokens)
-    } else if level == 6 {
+    } else if level == CONCAT {
         expect_symbol(Symbol::DoubleBar, tokens)
-    } else if level == 8 {
+    } else if level == AND {
         expect_word("and", tokens)
     } else {
         expect_word("or", tokens)
@@ -185,67 +133,28 @@ impl<
         (self.operand)(self.grammar.alloc, self.grammar.depth, level, tokens)
     }
 
-    /// An operand, and what stands behind it at the first level.
-    fn with_sets(
+    /// An operand, and those behind it of a level that makes a chain of them.
+    fn with_chain<T: Chains + Drop>(
         &self,
+        level: u8,
         first: Boxed<Expr>,
         rest: &'a [Token],
     ) -> Result<(Boxed<Expr>, &'a [Token]), Fault>
         requires operands { Operands self.now.grammar.now.depth self.now.level
             (G.pre self.now.operand) (G.post self.now.operand) }
-        requires within { 1 ≤ self.now.level }
+        requires some { 0 < level }
+        requires within { level ≤ self.now.level }
         ensures { Parses result
-            (behind.with_sets (spec.single self.now.grammar.now.depth) first (lexemes rest.now)) }
+            (behind.chained (spec.single self.now.grammar.now.depth) level T.table T.chain first
+            (lexemes rest.now)) }
     {
-        let items = Pair::<F, G, SetOperator> {
+        let items = Pair::<F, G, T> {
             operators: self,
-            level: 1,
+            level,
             operator: PhantomData,
         };
         let (more, rest) = many(self.grammar.alloc, &items, rest)?;
-        Ok((set_operation(self.grammar.alloc, first, more)?, rest))
-    }
-
-    /// A factor, and those behind it.
-    fn with_factors(
-        &self,
-        first: Boxed<Expr>,
-        rest: &'a [Token],
-    ) -> Result<(Boxed<Expr>, &'a [Token]), Fault>
-        requires operands { Operands self.now.grammar.now.depth self.now.level
-            (G.pre self.now.operand) (G.post self.now.operand) }
-        requires within { 3 ≤ self.now.level }
-        ensures { Parses result
-            (behind.with_factors (spec.single self.now.grammar.now.depth) first (lexemes rest.now)) }
-    {
-        let items = Pair::<F, G, ProductOperator> {
-            operators: self,
-            level: 3,
-            operator: PhantomData,
-        };
-        let (more, rest) = many(self.grammar.alloc, &items, rest)?;
-        Ok((product(self.grammar.alloc, first, more)?, rest))
-    }
-
-    /// A term, and those behind it.
-    fn with_terms(
-        &self,
-        first: Boxed<Expr>,
-        rest: &'a [Token],
-    ) -> Result<(Boxed<Expr>, &'a [Token]), Fault>
-        requires operands { Operands self.now.grammar.now.depth self.now.level
-            (G.pre self.now.operand) (G.post self.now.operand) }
-        requires within { 4 ≤ self.now.level }
-        ensures { Parses result
-            (behind.with_terms (spec.single self.now.grammar.now.depth) first (lexemes rest.now)) }
-    {
-        let items = Pair::<F, G, Sign> {
-            operators: self,
-            level: 4,
-            operator: PhantomData,
-        };
-        let (more, rest) = many(self.grammar.alloc, &items, rest)?;
-        Ok((sum(self.grammar.alloc, first, more)?, rest))
+        Ok((chained(self.grammar.alloc, first, more)?, rest))
     }
 
     /// What a range begins with, and its end behind `to`.
@@ -262,7 +171,7 @@ impl<
             (behind.with_end (spec.single self.now.grammar.now.depth) first (lexemes tokens.now)) }
     {
         let rest = expect_word("to", tokens)?;
-        let (last, rest) = self.operand(4, rest)?;
+        let (last, rest) = self.operand(RANGE - 1, rest)?;
         Ok((ranged(self.grammar.alloc, first, last)?, rest))
     }
 
@@ -281,7 +190,7 @@ impl<
             (lexemes tokens.now)) }
     {
         let (operator, rest) = one_of::<ComparisonOperator>(tokens)?;
-        let (right, rest) = self.operand(6, rest)?;
+        let (right, rest) = self.operand(COMPARISON - 1, rest)?;
         Ok((compared(self.grammar.alloc, first, operator, right)?, rest))
     }
 
@@ -309,6 +218,7 @@ impl<
     }
 
     /// An operand, and what stands behind it at a level whose operator is next.
+    #[tactic(auto, unfolding(crate::specs::private::Behind::at))]
     fn at_level(
         &self,
         level: u8,
@@ -323,13 +233,18 @@ impl<
         ensures { Parses result
             (behind.at (spec.single self.now.grammar.now.depth) level first (lexemes tokens.now)) }
     {
-        match level {
-            1 => self.with_sets(first, tokens),
-            3 => self.with_factors(first, tokens),
-            4 => self.with_terms(first, tokens),
-            5 => self.with_end(first, tokens),
-            7 => self.with_compared(first, tokens),
-            _ => self.with_joined(level, first, tokens),
+        if level == SET {
+            self.with_chain::<SetOperator>(level, first, tokens)
+        } else if level == PRODUCT {
+            self.with_chain::<ProductOperator>(level, first, tokens)
+        } else if level == SUM {
+            self.with_chain::<Sign>(level, first, tokens)
+        } else if level == RANGE {
+            self.with_end(first, tokens)
+        } else if level == COMPARISON {
+            self.with_compared(first, tokens)
+        } else {
+            self.with_joined(level, first, tokens)
         }
     }
 

@@ -8,8 +8,9 @@ ghost use Rattle.xq_parser.specs.private.Reading as spec;
 ghost use Rattle.xq_parser.specs.private.Parses.{ParsesAs, Nests, Operands, Parses};
 ghost use Rattle.xq_parser.specs.Answers.{RefusesTokens};
 
+use crate::levels::OR;
 use crate::lookahead::{begins_constructor, begins_flwor, begins_if, begins_quantified, is_alone};
-use crate::operators::{LOOSEST, Operators};
+use crate::operators::Operators;
 use crate::primaries::Grammar;
 use sqlite_items::Boxed;
 use std::alloc::Global;
@@ -35,7 +36,7 @@ fn any<
 {
     let operators = Operators {
         grammar: &grammar,
-        level: LOOSEST,
+        level: OR,
         operand,
     };
     if is_alone(tokens) {

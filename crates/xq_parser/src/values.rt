@@ -1,11 +1,14 @@
 //! What phrases stand for.
-ghost use Rattle.std.specs.Prelude.{Some};
+ghost use Rattle.std.specs.Prelude.{◌≡◌, List, Some};
+ghost use Rattle.xq_expressions.specs.declared.expressions.Expr.{Expr as Expr_};
 ghost use Rattle.xq_expressions.specs.declared.expressions.Expr.TheVariants as e;
 ghost use Rattle.xq_parser.specs.Grammar as g;
 ghost use Rattle.xq_parser.specs.private.Behind as behind;
 ghost use Rattle.xq_parser.specs.private.Parses.{ParsesAs};
 
+use crate::levels::{AND, CONCAT, UNION};
 use crate::lists::listed;
+use crate::words::Listed;
 use sqlite_items::{Boxed, Items};
 use std::alloc::Global;
 use xq_atoms::Fault;
@@ -43,11 +46,11 @@ pub(crate) fn joined(
         return Ok(first);
     }
     let all = listed(alloc, first.into_inner(), more)?;
-    let value = if level == 2 {
+    let value = if level == UNION {
         Expr::Union(all)
-    } else if level == 6 {
+    } else if level == CONCAT {
         Expr::Concat(all)
-    } else if level == 8 {
+    } else if level == AND {
         Expr::And(all)
     } else {
         Expr::Or(all)
@@ -55,49 +58,51 @@ pub(crate) fn joined(
     Ok(Boxed::new(alloc, value)?)
 }
 
-/// An operand, or a sum.
-pub(crate) fn sum(
-    alloc: Global,
-    first: Boxed<Expr>,
-    more: Items<(Sign, Expr)>,
-) -> Result<Boxed<Expr>, Fault>
-    ensures { ParsesAs (λ x. x) result (Some (g.chain e.Sum (first, more))) }
-{
-    if more.len() == 0 {
-        Ok(first)
-    } else {
-        Ok(Boxed::new(alloc, Expr::Sum(first, more))?)
+/// An operator whose level makes a chain of operands, each with the operator before it.
+pub(crate) trait Chains: Listed {
+    ghost chain: { Expr_ → List (Self × Expr_) → Expr_ };
+
+    /// The chain of an operand and those behind it.
+    fn chain(first: Boxed<Expr>, more: Items<(Self, Expr)>) -> Expr
+        ensures { result ≡ chain first more };
+}
+
+impl Chains for SetOperator {
+    ghost chain = { e.SetOperation };
+
+    fn chain(first: Boxed<Expr>, more: Items<(SetOperator, Expr)>) -> Expr {
+        Expr::SetOperation(first, more)
     }
 }
 
-/// An operand, or a product.
-pub(crate) fn product(
-    alloc: Global,
-    first: Boxed<Expr>,
-    more: Items<(ProductOperator, Expr)>,
-) -> Result<Boxed<Expr>, Fault>
-    ensures { ParsesAs (λ x. x) result (Some (g.chain e.Product (first, more))) }
-{
-    if more.len() == 0 {
-        Ok(first)
-    } else {
-        Ok(Boxed::new(alloc, Expr::Product(first, more))?)
+impl Chains for ProductOperator {
+    ghost chain = { e.Product };
+
+    fn chain(first: Boxed<Expr>, more: Items<(ProductOperator, Expr)>) -> Expr {
+        Expr::Product(first, more)
     }
 }
 
-/// An operand, or intersections and differences.
-pub(crate) fn set_operation(
+impl Chains for Sign {
+    ghost chain = { e.Sum };
+
+    fn chain(first: Boxed<Expr>, more: Items<(Sign, Expr)>) -> Expr {
+        Expr::Sum(first, more)
+    }
+}
+
+/// An operand, or a chain of two and more.
+pub(crate) fn chained<T: Chains>(
     alloc: Global,
     first: Boxed<Expr>,
-    more: Items<(SetOperator, Expr)>,
+    more: Items<(T, Expr)>,
 ) -> Result<Boxed<Expr>, Fault>
-    ensures { ParsesAs (λ x. x) result (Some (g.chain e.SetOperation (first, more))) }
+    ensures { ParsesAs (λ x. x) result (Some (g.chain T.chain (first, more))) }
 {
     if more.len() == 0 {
-        Ok(first)
-    } else {
-        Ok(Boxed::new(alloc, Expr::SetOperation(first, more))?)
+        return Ok(first);
     }
+    Ok(Boxed::new(alloc, T::chain(first, more))?)
 }
 
 /// An operand, or the calls that it is handed on to.

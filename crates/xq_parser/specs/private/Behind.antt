@@ -4,7 +4,7 @@ use Rattle.xq_lexer.specs.Lexeme.{symbol}
 use Rattle.xq_lexer.specs.declared.tokens.Symbol.TheVariants as s
 use Rattle.xq_expressions.specs.declared.expressions.Expr.{Expr}
 use Rattle.xq_expressions.specs.declared.expressions.Expr.TheVariants as e
-use Rattle.xq_parser.specs.Look.{word}
+use Rattle.xq_parser.specs.Look.{Table, word}
 use Rattle.xq_parser.specs.Grammar as g
 use Rattle.xq_parser.specs.private.Reading as r
 use Rattle.xq_parser.specs.private.Reading.{Parser, and_then, pure, both, mapped, many, maybe, is, begins, expect, stands}
@@ -29,18 +29,6 @@ module _ (single : Parser Expr) where
   with_calls x = mapped (g.chain e.Arrow)
       (both (pure x) (many (is (symbol s.Arrow)) (r.arrow_item single)))
 
-  abbrev pub with_sets : Expr → Parser Expr
-  with_sets x = mapped (g.chain e.SetOperation)
-      (both (pure x) (many (stands 1) (both (r.one_of g.set_operators) (r.level single 0))))
-
-  abbrev pub with_factors : Expr → Parser Expr
-  with_factors x = mapped (g.chain e.Product)
-      (both (pure x) (many (stands 3) (both (r.one_of g.product_operators) (r.level single 2))))
-
-  abbrev pub with_terms : Expr → Parser Expr
-  with_terms x = mapped (g.chain e.Sum)
-      (both (pure x) (many (stands 4) (both (r.one_of g.signs) (r.level single 3))))
-
   abbrev pub with_end : Expr → Parser Expr
   with_end x = mapped g.ranged
       (both (pure x) (maybe (stands 5) (r.after (word "to") (r.level single 4))))
@@ -48,6 +36,12 @@ module _ (single : Parser Expr) where
   abbrev pub with_compared : Expr → Parser Expr
   with_compared x = mapped g.compared
       (both (pure x) (maybe (stands 7) (both (r.one_of g.comparisons) (r.level single 6))))
+
+  -- a level that makes a chain of its operands, each with its operator
+  abbrev pub chained : {A : Type 0} → ℕ → Table A → (Expr → List (A × Expr) → Expr) → Expr
+      → Parser Expr
+  chained n table chain x = mapped (g.chain chain)
+      (both (pure x) (many (stands n) (both (r.one_of table) (r.level single (n - 1)))))
 
   -- an operand of a list after the token of its level
   unfoldable pub joined_item : ℕ → Parser Expr
@@ -59,7 +53,9 @@ module _ (single : Parser Expr) where
   -- the line of a level
   unfoldable pub at : ℕ → Expr → Parser Expr
   at n =
-      if n == 1 then with_sets else (if n == 3 then with_factors else (if n == 4 then with_terms
+      if n == 1 then chained n g.set_operators e.SetOperation
+      else (if n == 3 then chained n g.product_operators e.Product
+      else (if n == 4 then chained n g.signs e.Sum
       else (if n == 5 then with_end else (if n == 7 then with_compared else joined n))))
 
   -- all lines up to that of a level, behind the first operand of them all
