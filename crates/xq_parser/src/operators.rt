@@ -1,8 +1,7 @@
 //! Operators, from maps to disjunctions (XQuery 3.1, sections 3.4 to 3.8, 3.19 and 3.20).
 ghost use Rattle.std.specs.Prelude.{◌≡◌, ◌<◌, ◌≤◌, ◌-◌, true};
-ghost use Rattle.xq_lexer.specs.Lexeme.{lexemes, name as name_lex, symbol as symbol_lex};
+ghost use Rattle.xq_lexer.specs.Lexeme.{lexemes, symbol as symbol_lex};
 ghost use Rattle.xq_lexer.specs.declared.tokens.Symbol.TheVariants as s;
-ghost use Rattle.xq_parser.specs.Look as look;
 ghost use Rattle.xq_parser.specs.Grammar as g;
 ghost use Rattle.xq_parser.specs.private.Behind as behind;
 ghost use Rattle.xq_parser.specs.private.Reading as spec;

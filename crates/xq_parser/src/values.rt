@@ -92,7 +92,7 @@ impl Chains for Sign {
 }
 
 /// An operand, or a chain of two and more.
-pub(crate) fn chained<T: Chains>(
+pub(crate) fn chained<T: Chains + Drop>(
     alloc: Global,
     first: Boxed<Expr>,
     more: Items<(T, Expr)>,
