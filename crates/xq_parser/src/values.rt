@@ -70,7 +70,9 @@ pub(crate) trait Chains: Listed {
 impl Chains for SetOperator {
     ghost chain = { e.SetOperation };
 
-    fn chain(first: Boxed<Expr>, more: Items<(SetOperator, Expr)>) -> Expr {
+    fn chain(first: Boxed<Expr>, more: Items<(SetOperator, Expr)>) -> Expr
+        ensures { result ≡ e.SetOperation first more }
+    {
         Expr::SetOperation(first, more)
     }
 }
@@ -78,7 +80,9 @@ impl Chains for SetOperator {
 impl Chains for ProductOperator {
     ghost chain = { e.Product };
 
-    fn chain(first: Boxed<Expr>, more: Items<(ProductOperator, Expr)>) -> Expr {
+    fn chain(first: Boxed<Expr>, more: Items<(ProductOperator, Expr)>) -> Expr
+        ensures { result ≡ e.Product first more }
+    {
         Expr::Product(first, more)
     }
 }
@@ -86,7 +90,9 @@ impl Chains for ProductOperator {
 impl Chains for Sign {
     ghost chain = { e.Sum };
 
-    fn chain(first: Boxed<Expr>, more: Items<(Sign, Expr)>) -> Expr {
+    fn chain(first: Boxed<Expr>, more: Items<(Sign, Expr)>) -> Expr
+        ensures { result ≡ e.Sum first more }
+    {
         Expr::Sum(first, more)
     }
 }
