@@ -108,8 +108,8 @@ module _ (single : Parser Expr) (x : Expr) where
   unfolding b.at b.of_list
   stays us = by_level (Stays us)
       (no_more (g.chain e.SetOperation) _ _ x us) (no_more (g.several e.Union) _ _ x us) (no_more (g.chain e.Product) _ _ x us)
-      (no_more (g.chain e.Sum) _ _ x us) (no_other g.ranged _ _ x us) (no_more (g.several e.Concat) _ _ x us)
-      (no_other g.compared _ _ x us) (no_more (g.several e.And) _ _ x us) (no_more (g.several e.Or) _ _ x us)
+      (no_more (g.chain e.Sum) _ _ x us) (no_other g.ranged (r.stands 5) (r.after (word "to") (r.level single 4)) x us) (no_more (g.several e.Concat) _ _ x us)
+      (no_other g.compared (r.stands 7) (both (r.one_of g.comparisons) (r.level single 6)) x us) (no_more (g.several e.And) _ _ x us) (no_more (g.several e.Or) _ _ x us)
 
   -- one level after another
   up_next : (ts : Tokens) (n : ℕ) (y : Expr) (us : Tokens) → b.up_to single n x ts ≡ Some (y, us) → b.up_to single (suc n) x ts ≡ b.at single (suc n) y us
@@ -143,24 +143,26 @@ module _ (single : Parser Expr) (x : Expr) where
       subst (λ (m : ℕ). b.up_to single m x ts ≡ None) all (up_none ts 0 last (first_none ts h))
   calls_fail ts last (OfCode _) h = absurd h
 
-  -- a fault at a level is one of all
-  pub up_fails : (ts : Tokens) (n last : ℕ) (y : Expr) (us : Tokens) (fault : Fault) → n < last → b.up_to single n x ts ≡ Some (y, us) → ParsesNot fault (b.at single (n + 1) y us) → ParsesNot fault (b.up_to single last x ts)
-  up_fails ts n last y us (OfWant Memory) lt h f = tt
-  up_fails ts n last y us (OfWant Store) lt h f = absurd f
-  up_fails ts n last y us (OfCode XPST0003) lt h f =
-      let one : n + 1 ≡ suc n = omega arith in
+  -- a fault at the next level is one of all
+  pub up_fails : (ts : Tokens) (n last next : ℕ) (y : Expr) (us : Tokens) (fault : Fault) → n < last → next ≡ n + 1 → b.up_to single n x ts ≡ Some (y, us) → ParsesNot fault (b.at single next y us) → ParsesNot fault (b.up_to single last x ts)
+  up_fails ts n last next y us (OfWant Memory) lt e h f = tt
+  up_fails ts n last next y us (OfWant Store) lt e h f = absurd f
+  up_fails ts n last next y us (OfCode XPST0003) lt e h f =
+      let one : next ≡ suc n = omega (arith, e) in
       let none : b.up_to single (suc n) x ts ≡ None = up_next ts n y us h ∙ subst (λ (k : ℕ). b.at single k y us ≡ None) one f in
-      let many_more : suc n + (last - suc n) ≡ last = omega (arith, lt) in
-      subst (λ (k : ℕ). b.up_to single k x ts ≡ None) many_more (up_none ts (suc n) (last - suc n) none)
-  up_fails ts n last y us (OfCode _) lt h f = absurd f
+      let all : suc n + (last - suc n) ≡ last = omega (arith, lt) in
+      subst (λ (k : ℕ). b.up_to single k x ts ≡ None) all (up_none ts (suc n) (last - suc n) none)
+  up_fails ts n last next y us (OfCode _) lt e h f = absurd f
 
-  pub up_more : (ts : Tokens) (n : ℕ) (y : Expr) (us : Tokens) (z : Expr) (vs : Tokens) → b.up_to single n x ts ≡ Some (y, us) → b.at single (n + 1) y us ≡ Some (z, vs) → b.up_to single (n + 1) x ts ≡ Some (z, vs)
-  up_more ts n y us z vs h k =
-      let one : n + 1 ≡ suc n = omega arith in
-      subst (λ (m : ℕ). b.at single m y us ≡ Some (z, vs) → b.up_to single m x ts ≡ Some (z, vs)) (sym one) (λ read. up_next ts n y us h ∙ read) k
+  pub up_more : (ts : Tokens) (n next : ℕ) (y : Expr) (us : Tokens) (z : Expr) (vs : Tokens) → next ≡ n + 1 → b.up_to single n x ts ≡ Some (y, us) → b.at single next y us ≡ Some (z, vs) → b.up_to single (n + 1) x ts ≡ Some (z, vs)
+  up_more ts n next y us z vs e h k =
+      let one : next ≡ suc n = omega (arith, e) in
+      let more : suc n ≡ n + 1 = omega arith in
+      let read : b.up_to single (suc n) x ts ≡ Some (z, vs) = up_next ts n y us h ∙ subst (λ (m : ℕ). b.at single m y us ≡ Some (z, vs)) one k in
+      subst (λ (m : ℕ). b.up_to single m x ts ≡ Some (z, vs)) more read
 
 pub up_stays : (single : Parser Expr) (x : Expr) (ts : Tokens) (n : ℕ) (y : Expr) (us : Tokens) → n < 9 → r.stands (n + 1) us ≡ false → b.up_to single n x ts ≡ Some (y, us) → b.up_to single (n + 1) x ts ≡ Some (y, us)
-up_stays single x ts n y us lt h k = up_more single x ts n y us y us k (stays single y us (n + 1) (omega arith) (omega (arith, lt)) h)
+up_stays single x ts n y us lt h k = up_more single x ts n (n + 1) y us y us refl k (stays single y us (n + 1) (omega arith) (omega (arith, lt)) h)
 
 -- ---- no operator stands before a token that ends an expression
 
