@@ -52,7 +52,8 @@ pub(crate) fn many<'a, R: Repeated<'a>>(
     tokens: &'a [Token],
 ) -> Result<(Items<R::Value>, &'a [Token]), Fault>
     requires { R.ready phrase.now }
-    ensures { Parses result (spec.many (R.test phrase.now) (R.reader phrase.now) (lexemes tokens.now)) }
+    ensures { Parses result
+        (spec.many (R.test phrase.now) (R.reader phrase.now) (lexemes tokens.now)) }
 {
     if !phrase.follows(tokens) {
         return Ok((Items::new(alloc), tokens));

@@ -11,9 +11,7 @@ use crate::levels::{AND, COMPARISON, CONCAT, PRODUCT, RANGE, SET, SUM, UNION, ne
 use crate::lists::{Repeated, many};
 use crate::lookahead::{ends_expression, expect_symbol, expect_word, is_symbol, is_word};
 use crate::primaries::Grammar;
-use crate::values::{
-    Chains, arrow, chained, compared, joined, ranged, signed, simple_map,
-};
+use crate::values::{Chains, arrow, chained, compared, joined, ranged, signed, simple_map};
 use crate::words::{Listed, begins, one_of};
 use sqlite_items::{Boxed, Items};
 use std::alloc::Global;

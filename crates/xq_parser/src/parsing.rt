@@ -21,8 +21,8 @@ use xq_lexer::{MAX_NESTING, Token, nesting};
 /// How many singles may nest in one another: the whole expression, and those nested in it.
 const MAX_DEPTH: usize = MAX_NESTING as usize + 1;
 
-/// A single expression, over what reads singles that nest deeper, and what reads the operands of its
-/// operators. Most are literals that stand by themselves, and those are read without a look at
+/// A single expression, over what reads singles that nest deeper, and what reads the operands of
+/// its operators. Most are literals that stand by themselves, and those are read without a look at
 /// operators.
 #[tactic(auto, unfolding(crate::specs::private::Reading::any, crate::specs::private::Reading::level))]
 fn any<
