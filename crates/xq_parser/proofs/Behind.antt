@@ -1,5 +1,7 @@
 -- Operators behind an operand that was read before they are looked for.
-use Rattle.std.proofs.Common.{◌≡◌, ◌∙◌, ℕ, List, true, false, [], ◌∷◌, Some, None, refl, ap}
+use Rattle.std.proofs.Common.{◌≡◌, ◌∙◌, ℕ, zero, suc, ◌+◌, ◌-◌, ◌<◌, ◌≤◌, Bool, List, true, false, [], ◌∷◌, Option, Some, None, refl, sym, ap, subst, arith}
+use Rattle.std.specs.Prelude.{◌==◌}
+use Rattle.std.proofs.lemmas.Bool.Decides.{nat_tests}
 use Rattle.xq_lexer.specs.Lexeme.{name, prefixed, symbol}
 use Rattle.xq_lexer.specs.declared.tokens.Symbol.TheVariants as s
 use Rattle.xq_expressions.specs.declared.expressions.Expr.{Expr}
@@ -31,63 +33,155 @@ module _ {X A B : Type 0} (f : X × A → B) (q : Parser A) where
   tail None = refl
   tail (Some p) = refl
 
-  -- the line below begins with an operand
-  pub up : {E : Type 0} (lower : Parser X) (o : Outcome E) (low : E → Parser X) (ts : Tokens) → lower ts ≡ and_then o low → mapped f (both lower q) ts ≡ and_then o (λ x us. and_then (low x us) (λ a. mapped f (both (pure a) q)))
-  up lower None low ts h = rw h refl
-  up lower (Some p) low ts h = rw h (tail (low p.0 p.1))
+assoc : {A B C : Type 0} (o : Outcome A) (f : A → Parser B) (k : B → Parser C) → and_then (and_then o f) k ≡ and_then o (λ a us. and_then (f a us) k)
+assoc None f k = refl
+assoc (Some p) f k = refl
 
--- ---- all lines
+-- ---- levels
+
+-- what holds of each level
+by_level : (P : ℕ → Type 0) → P 1 → P 2 → P 3 → P 4 → P 5 → P 6 → P 7 → P 8 → P 9 → (n : ℕ) → 0 < n → n ≤ 9 → P n
+by_level P p1 p2 p3 p4 p5 p6 p7 p8 p9 zero some within = absurd (omega (arith, some))
+by_level P p1 p2 p3 p4 p5 p6 p7 p8 p9 (suc zero) some within = p1
+by_level P p1 p2 p3 p4 p5 p6 p7 p8 p9 (suc (suc zero)) some within = p2
+by_level P p1 p2 p3 p4 p5 p6 p7 p8 p9 (suc (suc (suc zero))) some within = p3
+by_level P p1 p2 p3 p4 p5 p6 p7 p8 p9 (suc (suc (suc (suc zero)))) some within = p4
+by_level P p1 p2 p3 p4 p5 p6 p7 p8 p9 (suc (suc (suc (suc (suc zero))))) some within = p5
+by_level P p1 p2 p3 p4 p5 p6 p7 p8 p9 (suc (suc (suc (suc (suc (suc zero)))))) some within = p6
+by_level P p1 p2 p3 p4 p5 p6 p7 p8 p9 (suc (suc (suc (suc (suc (suc (suc zero))))))) some within = p7
+by_level P p1 p2 p3 p4 p5 p6 p7 p8 p9 (suc (suc (suc (suc (suc (suc (suc (suc zero)))))))) some within = p8
+by_level P p1 p2 p3 p4 p5 p6 p7 p8 p9 (suc (suc (suc (suc (suc (suc (suc (suc (suc zero))))))))) some within = p9
+by_level P p1 p2 p3 p4 p5 p6 p7 p8 p9 (suc (suc (suc (suc (suc (suc (suc (suc (suc (suc n)))))))))) some within = absurd (omega (arith, within))
 
 module _ (single : Parser Expr) (ts : Tokens) where
-  calls_behind : r.arrow single ts ≡ and_then (r.unary single ts) (b.with_calls single)
-  unfolding r.arrow
+  abbrev Continues : ℕ → Type 0
+  Continues n = r.level single n ts ≡ and_then (r.level single (n - 1) ts) (b.at single n)
+
+  -- the line of a level is that of the tighter one, and what stands behind it
+  continues : (n : ℕ) → 0 < n → n ≤ 9 → Continues n
+  unfolding r.level b.at b.joined_item b.joint b.of_list r.inter r.set_item r.union r.union_item r.product r.product_item r.sum r.sum_item r.range r.range_item r.concat r.concat_item r.comparison r.comparison_item r.conjunction r.and_item r.disjunction r.or_item
+  continues = by_level Continues
+      (tail (g.chain e.SetOperation) (many (r.stands 1) (r.set_item single)) (r.arrow single ts))
+      (tail (g.several e.Union) (many (r.stands 2) (r.union_item single)) (r.inter single ts))
+      (tail (g.chain e.Product) (many (r.stands 3) (r.product_item single)) (r.union single ts))
+      (tail (g.chain e.Sum) (many (r.stands 4) (r.sum_item single)) (r.product single ts))
+      (tail g.ranged (maybe (r.stands 5) (r.range_item single)) (r.sum single ts))
+      (tail (g.several e.Concat) (many (r.stands 6) (r.concat_item single)) (r.range single ts))
+      (tail g.compared (maybe (r.stands 7) (r.comparison_item single)) (r.concat single ts))
+      (tail (g.several e.And) (many (r.stands 8) (r.and_item single)) (r.comparison single ts))
+      (tail (g.several e.Or) (many (r.stands 9) (r.or_item single)) (r.conjunction single ts))
+
+  calls_behind : r.level single 0 ts ≡ and_then (r.unary single ts) (b.up_to single 0)
+  unfolding r.level r.arrow b.up_to
   calls_behind = tail (g.chain e.Arrow) (many (is (symbol s.Arrow)) (r.arrow_item single)) (r.unary single ts)
 
-  sets_behind : r.inter single ts ≡ and_then (r.unary single ts) (b.up_to_sets single)
-  unfolding r.inter
-  sets_behind = up (g.chain e.SetOperation) (many (begins g.set_operators) (r.set_item single)) (r.arrow single) (r.unary single ts) (b.with_calls single) ts calls_behind
+  next_behind : (n : ℕ) → r.level single n ts ≡ and_then (r.unary single ts) (b.up_to single n) → r.level single (suc n) ts ≡ and_then (r.level single n ts) (b.at single (suc n)) → r.level single (suc n) ts ≡ and_then (r.unary single ts) (b.up_to single (suc n))
+  unfolding b.up_to
+  next_behind n low more = more ∙ ap (λ o. and_then o (b.at single (suc n))) low ∙ assoc (r.unary single ts) (b.up_to single n) (b.at single (suc n))
 
-  unions_behind : r.union single ts ≡ and_then (r.unary single ts) (b.up_to_unions single)
-  unfolding r.union
-  unions_behind = up (g.several e.Union) (many r.begins_union (r.union_item single)) (r.inter single) (r.unary single ts) (b.up_to_sets single) ts sets_behind
+  -- the line of a level is its first operand, and what stands behind it
+  pub levels_behind : (n : ℕ) → n ≤ 9 → r.level single n ts ≡ and_then (r.unary single ts) (b.up_to single n)
+  levels_behind zero within = calls_behind
+  levels_behind (suc n) within =
+      let one : suc n - 1 ≡ n = omega arith in
+      next_behind n (levels_behind n (omega (arith, within)))
+      (subst (λ (k : ℕ). r.level single (suc n) ts ≡ and_then (r.level single k ts) (b.at single (suc n))) one (continues (suc n) (omega arith) within))
 
-  factors_behind : r.product single ts ≡ and_then (r.unary single ts) (b.up_to_factors single)
-  unfolding r.product b.up_to_factors
-  factors_behind = up (g.chain e.Product) (many (begins g.product_operators) (r.product_item single)) (r.union single) (r.unary single ts) (b.up_to_unions single) ts unions_behind
+-- ---- where no operator of a level is next, nothing stands behind
 
-  terms_behind : r.sum single ts ≡ and_then (r.unary single ts) (b.up_to_terms single)
-  unfolding r.sum
-  terms_behind = up (g.chain e.Sum) (many (begins g.signs) (r.sum_item single)) (r.product single) (r.unary single ts) (b.up_to_factors single) ts factors_behind
+none_follow : {A : Type 0} (test : Tokens → Bool) (item : Parser A) (us : Tokens) → test us ≡ false → many test item us ≡ Some ([], us)
+unfolding many r.many_from
+none_follow test item [] h = refl
+none_follow test item (t ∷ us) h = rw h refl
 
-  end_behind : r.range single ts ≡ and_then (r.unary single ts) (b.up_to_end single)
-  unfolding r.range
-  end_behind = up g.ranged (maybe (is (word "to")) (r.range_item single)) (r.sum single) (r.unary single ts) (b.up_to_terms single) ts terms_behind
+no_more : {A : Type 0} (f : Expr × List A → Expr) (test : Tokens → Bool) (item : Parser A) (x : Expr) (us : Tokens) → test us ≡ false → mapped f (both (pure x) (many test item)) us ≡ Some (f (x, []), us)
+no_more f test item x us h = rw (none_follow test item us h) refl
 
-  texts_behind : r.concat single ts ≡ and_then (r.unary single ts) (b.up_to_texts single)
-  unfolding r.concat
-  texts_behind = up (g.several e.Concat) (many (is (symbol s.DoubleBar)) (r.concat_item single)) (r.range single) (r.unary single ts) (b.up_to_end single) ts end_behind
+no_other : {A : Type 0} (f : Expr × Option A → Expr) (test : Tokens → Bool) (item : Parser A) (x : Expr) (us : Tokens) → test us ≡ false → mapped f (both (pure x) (maybe test item)) us ≡ Some (f (x, None), us)
+no_other f test item x us h = rw h refl
 
-  compared_behind : r.comparison single ts ≡ and_then (r.unary single ts) (b.up_to_compared single)
-  unfolding r.comparison b.up_to_compared
-  compared_behind = up g.compared (maybe (begins g.comparisons) (r.comparison_item single)) (r.concat single) (r.unary single ts) (b.up_to_texts single) ts texts_behind
+module _ (single : Parser Expr) (x : Expr) where
+  abbrev Stays : Tokens → ℕ → Type 0
+  Stays us n = r.stands n us ≡ false → b.at single n x us ≡ Some (x, us)
 
-  ands_behind : r.conjunction single ts ≡ and_then (r.unary single ts) (b.up_to_ands single)
-  unfolding r.conjunction
-  ands_behind = up (g.several e.And) (many (is (word "and")) (r.and_item single)) (r.comparison single) (r.unary single ts) (b.up_to_compared single) ts compared_behind
+  stays : (us : Tokens) (n : ℕ) → 0 < n → n ≤ 9 → Stays us n
+  unfolding b.at b.of_list
+  stays us = by_level (Stays us)
+      (no_more (g.chain e.SetOperation) _ _ x us) (no_more (g.several e.Union) _ _ x us) (no_more (g.chain e.Product) _ _ x us)
+      (no_more (g.chain e.Sum) _ _ x us) (no_other g.ranged (r.stands 5) (r.after (word "to") (r.level single 4)) x us) (no_more (g.several e.Concat) _ _ x us)
+      (no_other g.compared (r.stands 7) (both (r.one_of g.comparisons) (r.level single 6)) x us) (no_more (g.several e.And) _ _ x us) (no_more (g.several e.Or) _ _ x us)
 
-  pub operators_behind : r.disjunction single ts ≡ and_then (r.unary single ts) (b.operators single)
-  unfolding r.disjunction b.operators
-  operators_behind = up (g.several e.Or) (many (is (word "or")) (r.or_item single)) (r.conjunction single) (r.unary single ts) (b.up_to_ands single) ts ands_behind
+  -- one level after another
+  up_next : (ts : Tokens) (n : ℕ) (y : Expr) (us : Tokens) → b.up_to single n x ts ≡ Some (y, us) → b.up_to single (suc n) x ts ≡ b.at single (suc n) y us
+  unfolding b.up_to
+  up_next ts n y us h = ap (λ (o : Outcome Expr). and_then o (b.at single (suc n))) h
+
+  up_next_none : (ts : Tokens) (n : ℕ) → b.up_to single n x ts ≡ None → b.up_to single (suc n) x ts ≡ None
+  unfolding b.up_to
+  up_next_none ts n h = ap (λ (o : Outcome Expr). and_then o (b.at single (suc n))) h
+
+  pub up_first : (ts : Tokens) (y : Expr) (us : Tokens) → b.with_calls single x ts ≡ Some (y, us) → b.up_to single 0 x ts ≡ Some (y, us)
+  unfolding b.up_to
+  up_first ts y us h = h
+
+  first_none : (ts : Tokens) → b.with_calls single x ts ≡ None → b.up_to single 0 x ts ≡ None
+  unfolding b.up_to
+  first_none ts h = h
+
+  up_none : (ts : Tokens) (n k : ℕ) → b.up_to single n x ts ≡ None → b.up_to single (n + k) x ts ≡ None
+  up_none ts n zero h = let same : n ≡ n + zero = omega arith in subst (λ (m : ℕ). b.up_to single m x ts ≡ None) same h
+  up_none ts n (suc k) h =
+      let more : suc (n + k) ≡ n + suc k = omega arith in
+      subst (λ (m : ℕ). b.up_to single m x ts ≡ None) more (up_next_none ts (n + k) (up_none ts n k h))
+
+  -- a fault of the calls is one of all
+  pub calls_fail : (ts : Tokens) (last : ℕ) (fault : Fault) → ParsesNot fault (b.with_calls single x ts) → ParsesNot fault (b.up_to single last x ts)
+  calls_fail ts last (OfWant Memory) h = tt
+  calls_fail ts last (OfWant Store) h = absurd h
+  calls_fail ts last (OfCode XPST0003) h =
+      let all : 0 + last ≡ last = omega arith in
+      subst (λ (m : ℕ). b.up_to single m x ts ≡ None) all (up_none ts 0 last (first_none ts h))
+  calls_fail ts last (OfCode _) h = absurd h
+
+  -- a fault at the next level is one of all
+  pub up_fails : (ts : Tokens) (n last next : ℕ) (y : Expr) (us : Tokens) (fault : Fault) → n < last → next ≡ n + 1 → b.up_to single n x ts ≡ Some (y, us) → ParsesNot fault (b.at single next y us) → ParsesNot fault (b.up_to single last x ts)
+  up_fails ts n last next y us (OfWant Memory) lt e h f = tt
+  up_fails ts n last next y us (OfWant Store) lt e h f = absurd f
+  up_fails ts n last next y us (OfCode XPST0003) lt e h f =
+      let one : next ≡ suc n = omega (arith, e) in
+      let none : b.up_to single (suc n) x ts ≡ None = up_next ts n y us h ∙ subst (λ (k : ℕ). b.at single k y us ≡ None) one f in
+      let all : suc n + (last - suc n) ≡ last = omega (arith, lt) in
+      subst (λ (k : ℕ). b.up_to single k x ts ≡ None) all (up_none ts (suc n) (last - suc n) none)
+  up_fails ts n last next y us (OfCode _) lt e h f = absurd f
+
+  pub up_more : (ts : Tokens) (n next : ℕ) (y : Expr) (us : Tokens) (z : Expr) (vs : Tokens) → next ≡ n + 1 → b.up_to single n x ts ≡ Some (y, us) → b.at single next y us ≡ Some (z, vs) → b.up_to single (n + 1) x ts ≡ Some (z, vs)
+  up_more ts n next y us z vs e h k =
+      let one : next ≡ suc n = omega (arith, e) in
+      let more : suc n ≡ n + 1 = omega arith in
+      let read : b.up_to single (suc n) x ts ≡ Some (z, vs) = up_next ts n y us h ∙ subst (λ (m : ℕ). b.at single m y us ≡ Some (z, vs)) one k in
+      subst (λ (m : ℕ). b.up_to single m x ts ≡ Some (z, vs)) more read
+
+pub up_stays : (single : Parser Expr) (x : Expr) (ts : Tokens) (n : ℕ) (y : Expr) (us : Tokens) → n < 9 → r.stands (n + 1) us ≡ false → b.up_to single n x ts ≡ Some (y, us) → b.up_to single (n + 1) x ts ≡ Some (y, us)
+up_stays single x ts n y us lt h k = up_more single x ts n (n + 1) y us y us refl k (stays single y us (n + 1) (omega arith) (omega (arith, lt)) h)
 
 -- ---- no operator stands before a token that ends an expression
 
-pub ended : (single : Parser Expr) (x : Expr) (us : Tokens) → begins_end us ≡ true → b.operators single x us ≡ Some (x, us)
-unfolding b.operators b.up_to_compared b.up_to_factors begins_end many r.many_from begins r.begins_union r.one_of lookup same same_symbol
-ended single x (symbol s.Comma ∷ us) h = refl
-ended single x (symbol s.CloseParenthesis ∷ us) h = refl
-ended single x (symbol s.CloseBracket ∷ us) h = refl
-ended single x (symbol s.CloseBrace ∷ us) h = refl
-ended single x us h = absurd cc
+end_level : (us : Tokens) → begins_end us ≡ true → (is (symbol s.Arrow) us ≡ false) × (r.next_level us ≡ 0)
+unfolding begins_end begins r.next_level r.level_of lookup same same_symbol
+end_level (symbol s.Comma ∷ us) h = (refl, refl)
+end_level (symbol s.CloseParenthesis ∷ us) h = (refl, refl)
+end_level (symbol s.CloseBracket ∷ us) h = (refl, refl)
+end_level (symbol s.CloseBrace ∷ us) h = (refl, refl)
+end_level us h = absurd cc
+
+none_stands : (us : Tokens) (n : ℕ) → 0 < n → r.next_level us ≡ 0 → r.stands n us ≡ false
+none_stands us n some h = let apart : (0 == n) ≡ false = grind (arith, nat_tests) in rw h apart
+
+pub ended : (single : Parser Expr) (x : Expr) (us : Tokens) → begins_end us ≡ true → (n : ℕ) → n ≤ 9 → b.up_to single n x us ≡ Some (x, us)
+ended single x us h zero within = up_first single x us x us (no_more (g.chain e.Arrow) _ _ x us (end_level us h).0)
+ended single x us h (suc n) within =
+    up_next single x us n x us (ended single x us h n (omega (arith, within)))
+    ∙ stays single x us (suc n) (omega arith) within (none_stands us (suc n) (omega arith) (end_level us h).1)
 
 pub ended_path : (single : Parser Expr) (x : Expr) (us : Tokens) → begins_end us ≡ true → and_then (b.path_from single x us) (b.with_maps single) ≡ Some (x, us)
 unfolding b.path_from r.predicates begins_end many r.many_from begins r.one_of lookup same same_symbol
@@ -98,10 +192,6 @@ ended_path single x (symbol s.CloseBrace ∷ us) h = rw (step.outs-Primary x [])
 ended_path single x us h = absurd cc
 
 -- ---- an operand that begins with a constructor
-
-assoc : {A B C : Type 0} (o : Outcome A) (f : A → Parser B) (k : B → Parser C) → and_then (and_then o f) k ≡ and_then o (λ a us. and_then (f a us) k)
-assoc None f k = refl
-assoc (Some p) f k = refl
 
 -- no sign stands before it
 unsigned : (o : Outcome Expr) → and_then (and_then o (λ x us. Some (([], x), us))) (λ x us. Some (g.signed x, us)) ≡ o
@@ -155,7 +245,7 @@ module _ (single : Parser Expr) where
   any_made ts h = absurd cc
 
   -- all of it, where it is the constructor alone
-  pub made_alone : (ts : Tokens) (x : Expr) (us : Tokens) → r.begins_make ts ≡ true → r.make single ts ≡ Some (x, us) → begins_end us ≡ true → r.disjunction single ts ≡ Some (x, us)
-  made_alone ts x us h read end =
+  pub made_alone : (n : ℕ) → n ≤ 9 → (ts : Tokens) (x : Expr) (us : Tokens) → r.begins_make ts ≡ true → r.make single ts ≡ Some (x, us) → begins_end us ≡ true → r.level single n ts ≡ Some (x, us)
+  made_alone n within ts x us h read end =
       let operand : r.unary single ts ≡ Some (x, us) = made ts h ∙ rw read (ended_path single x us end) in
-      operators_behind single ts ∙ rw operand (ended single x us end)
+      levels_behind single ts n within ∙ rw operand (ended single x us end n within)

@@ -205,7 +205,7 @@ module _ (Single : Rel Expr) (single : Parser Expr) (d : ℕ) (single-moves : Al
 
   assigned_item : Item (Deeper d) 20 (symbol s.Assign ▹ Single) (is (symbol s.Assign)) (r.governed single (symbol s.Assign))
   unfolding r.governed
-  assigned_item = item-▹ (Deeper d) Phrase 20 (symbol s.Assign) Single single (deeper_after d) refl (rw assign_rank (omega arith)) refl phrase_no_brace single-moves (p.single_line Single single d single-moves single-begins single-reads)
+  assigned_item = item-▹ (Deeper d) Phrase 20 (symbol s.Assign) (is (symbol s.Assign)) Single single (deeper_after d) refl (rw assign_rank (omega arith)) refl (λ ts. is_at (symbol s.Assign) ts refl) phrase_no_brace single-moves (p.single_line Single single d single-moves single-begins single-reads)
 
   group_spec_line : Reads (Deeper d) Dollar 12 (g.GroupS Single) (r.group_spec single)
   unfolding r.group_spec

@@ -211,13 +211,14 @@ module _ {A : Type 0} (Good : Tokens → Type 0) (keeps : (ts us : Tokens) → M
   }
 
 -- an operator of a table before an operand
-pub item-one_of : {A B : Type 0} (Good Start : Tokens → Type 0) (follow r : ℕ) (table : Table A) (P : Rel B) (p : Parser B)
+pub item-one_of : {A B : Type 0} (Good Start : Tokens → Type 0) (follow r : ℕ) (table : Table A) (test : Tokens → Bool) (P : Rel B) (p : Parser B)
     → ((ts us : Tokens) → Moves ts us → Good ts → Good us)
     → every (has_rank r) table ≡ true → r < follow → every is_plain table ≡ true → AllMove (OneOf table)
+    → ((t : Lex) (a : A) (ts : Tokens) → lookup table t ≡ Some a → test (t ∷ ts) ≡ true)
     → ((ts : Tokens) → Start ts → begins_brace ts ≡ false)
     → AllMove P → Reads Good Start follow P p
-    → Item Good follow (OneOf table & P) (begins table) (both (one_of table) p)
-item-one_of {A} {B} Good Start follow r table P p keeps ranks low all table_moves no_brace moves line = record {
+    → Item Good follow (OneOf table & P) test (both (one_of table) p)
+item-one_of {A} {B} Good Start follow r table test P p keeps ranks low all table_moves tested no_brace moves line = record {
   line = record {
     reads = λ ts a us w low_us good.
         let op = w.1 in
@@ -229,23 +230,24 @@ item-one_of {A} {B} Good Start follow r table P p keeps ranks low all table_move
         let e : rank (op.0 ∷ w.0) ≡ r = table_rank table r ranks op.0 w.0 a.0 op.2 (no_brace w.0 (line.starts w.0 a.1 us w.2 low_us)) in
         rw (op.1, e) low;
   };
-  tests = λ ts a us w. rw w.1.1 (begins_at table w.1.0 a.0 w.0 w.1.2);
+  tests = λ ts a us w. rw w.1.1 (tested w.1.0 a.0 w.0 w.1.2);
   moves = λ ts a us w. then ts w.0 us (table_moves ts a.0 w.0 w.1) (moves w.0 a.1 us w.2);
   shorter = λ ts a us w. let len = (moves w.0 a.1 us w.2).shorter in rw w.1.1 (omega (arith, len));
 }
 
 -- a token before an operand
-pub item-▹ : {B : Type 0} (Good Start : Tokens → Type 0) (follow : ℕ) (t : Lex) (P : Rel B) (p : Parser B)
+pub item-▹ : {B : Type 0} (Good Start : Tokens → Type 0) (follow : ℕ) (t : Lex) (test : Tokens → Bool) (P : Rel B) (p : Parser B)
     → ((ts us : Tokens) → Moves ts us → Good ts → Good us)
     → is_fixed t ≡ true → rank_of t < follow → is_plain t ≡ true
+    → ((ts : Tokens) → test (t ∷ ts) ≡ true)
     → ((ts : Tokens) → Start ts → begins_brace ts ≡ false)
     → AllMove P → Reads Good Start follow P p
-    → Item Good follow (t ▹ P) (is t) (after t p)
-item-▹ Good Start follow t P p keeps known low all no_brace moves line = record {
+    → Item Good follow (t ▹ P) test (after t p)
+item-▹ Good Start follow t test P p keeps known low all tested no_brace moves line = record {
   line = reads-▹ Good Good (λ ts. rank ts < follow) Start follow t P p known line
       (λ ts st good. keeps (t ∷ ts) ts (token t ts (plain t all)) good)
       (λ ts st. rw (rank-plain t ts (no_brace ts st)) low);
-  tests = λ ts a us w. rw w.1 (is_at t w.0 known);
+  tests = λ ts a us w. rw w.1 (tested w.0);
   moves = λ ts a us w. then ts w.0 us (one t ts w.0 all w.1) (moves w.0 a us w.2);
   shorter = λ ts a us w. let len = (moves w.0 a us w.2).shorter in rw w.1 (omega (arith, len));
 }

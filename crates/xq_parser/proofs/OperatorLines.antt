@@ -1,6 +1,6 @@
 -- Steps, paths and operators that are derived are read.
 use Rattle.std.proofs.Common.{◌≡◌, ℕ, zero, suc, ◌<◌, ◌≤◌, Bool, true, false, List, [], ◌∷◌, length, Some, refl, ap, subst, ◌∙◌, arith, inl, inr}
-use Rattle.std.specs.Prelude.{◌||◌}
+use Rattle.std.specs.Prelude.{◌*◌, ◌-◌}
 use Rattle.xq_lexer.specs.Lexeme.{Lex, name, prefixed, int, dec, str, symbol}
 use Rattle.xq_lexer.specs.declared.tokens.Symbol.TheVariants as s
 use Rattle.xq_expressions.specs.declared.operators.Sign.{Sign}
@@ -10,15 +10,16 @@ use Rattle.xq_expressions.specs.declared.expressions.Step.{Step}
 use Rattle.xq_parser.specs.Look.{Tokens, Table, lookup, same, same_symbol, word, begins_step}
 use Rattle.xq_parser.specs.Rel.{Rel, OneOf, ◌&◌, ◌▹◌, ◌⟨$⟩◌, ◌∣◌, Many}
 use Rattle.xq_parser.specs.Grammar as g
-use Rattle.xq_parser.specs.private.Reading.{Outcome, Parser, and_then, one_of, begins, is, expect, only, many, many_from, begins_primary, begins_lone, begins_flwor, begins_quantified, begins_if, begins_union}
+use Rattle.xq_parser.specs.private.Reading.{Outcome, Parser, and_then, one_of, begins, is, expect, only, many, many_from, begins_primary, begins_lone, begins_flwor, begins_quantified, begins_if, level_of, next_level}
 use Rattle.xq_parser.specs.private.Reading as r
 use Rattle.xq_parser.proofs.Tokens.{every, every_found}
 use Rattle.xq_parser.proofs.Moves.{AllMove, one, is_plain, move-one_of, move-∣, move-many}
 use Rattle.xq_parser.proofs.LinesMove as m
-use Rattle.xq_parser.proofs.Rank.{rank, rank_of, has_rank, table_stops, begins_path, begins_phrase, step_is_path, path_is_phrase, path_no_sign, phrase_no_brace, Plain}
+use Rattle.xq_parser.proofs.Rank.{rank, rank_of, has_rank, has_level, level_stops, table_stops, begins_path, begins_phrase, step_is_path, path_is_phrase, path_no_sign, phrase_no_brace, Plain}
 use Rattle.xq_parser.proofs.NameLines.{axis_reads}
 use Rattle.xq_parser.proofs.PrimaryLines as p
 use Rattle.xq_parser.proofs.PrimaryLines.{bracket_rank, bracket_stops, close_bracket_low}
+use Rattle.xq_parser.proofs.SoundLines.{union_choice}
 use Rattle.xq_parser.proofs.Complete.{is_fixed, Fits, Deeper, fits_after, Reads, Item, value_is, only_at, is_at, one_of_at, begins_at, item-▹, item-one_of, reads-chain, reads-optional, reads-many, reads-&, reads-∣, reads-◃, reads-open}
 
 -- ---- ranks of the operators
@@ -39,36 +40,49 @@ all_comparisons : every (has_rank 40) g.comparisons ≡ true
 unfolding rank_of lookup same
 all_comparisons = refl
 
+signs_level : every (has_level 4) g.signs ≡ true
+unfolding level_of
+signs_level = refl
+
+products_level : every (has_level 3) g.product_operators ≡ true
+unfolding level_of lookup same
+products_level = refl
+
+sets_level : every (has_level 1) g.set_operators ≡ true
+unfolding level_of lookup same
+sets_level = refl
+
+comparisons_level : every (has_level 7) g.comparisons ≡ true
+unfolding level_of lookup same
+comparisons_level = refl
+
 all_separators : every (has_rank 130) g.separators ≡ true
 unfolding rank_of
 all_separators = refl
 
--- a token alone
-only_stops : (t : Lex) (r : ℕ) → r ≤ 200 → every (has_rank r) (only t) ≡ true → (us : Tokens) → rank us < r → is t us ≡ false
-only_stops t r high h us low = table_stops (only t) r high h us low
-
-or_rank : (rank_of (word "or") ≡ 20) × (every (has_rank 20) (only (word "or")) ≡ true)
-unfolding rank_of lookup same
+-- the tokens between operands: their ranks and levels
+or_rank : (rank_of (word "or") ≡ 20) × (has_level 9 (word "or") ≡ true)
+unfolding rank_of level_of lookup same
 or_rank = (refl, refl)
 
-and_rank : (rank_of (word "and") ≡ 30) × (every (has_rank 30) (only (word "and")) ≡ true)
-unfolding rank_of lookup same
+and_rank : (rank_of (word "and") ≡ 30) × (has_level 8 (word "and") ≡ true)
+unfolding rank_of level_of lookup same
 and_rank = (refl, refl)
 
-concat_rank : (rank_of (symbol s.DoubleBar) ≡ 50) × (every (has_rank 50) (only (symbol s.DoubleBar)) ≡ true)
-unfolding rank_of
+concat_rank : (rank_of (symbol s.DoubleBar) ≡ 50) × (has_level 6 (symbol s.DoubleBar) ≡ true)
+unfolding rank_of level_of
 concat_rank = (refl, refl)
 
-to_rank : (rank_of (word "to") ≡ 60) × (every (has_rank 60) (only (word "to")) ≡ true)
-unfolding rank_of lookup same
+to_rank : (rank_of (word "to") ≡ 60) × (has_level 5 (word "to") ≡ true)
+unfolding rank_of level_of lookup same
 to_rank = (refl, refl)
 
-union_rank : (rank_of (word "union") ≡ 90) × (every (has_rank 90) (only (word "union")) ≡ true)
-unfolding rank_of lookup same
+union_rank : (rank_of (word "union") ≡ 90) × (has_level 2 (word "union") ≡ true)
+unfolding rank_of level_of lookup same
 union_rank = (refl, refl)
 
-bar_rank : (rank_of (symbol s.Bar) ≡ 90) × (every (has_rank 90) (only (symbol s.Bar)) ≡ true)
-unfolding rank_of
+bar_rank : (rank_of (symbol s.Bar) ≡ 90) × (has_level 2 (symbol s.Bar) ≡ true)
+unfolding rank_of level_of
 bar_rank = (refl, refl)
 
 map_rank : (rank_of (symbol s.Bang) ≡ 120) × (every (has_rank 120) (only (symbol s.Bang)) ≡ true)
@@ -79,9 +93,10 @@ arrow_rank : (rank_of (symbol s.Arrow) ≡ 110) × (every (has_rank 110) (only (
 unfolding rank_of
 arrow_rank = (refl, refl)
 
-union_stops : (us : Tokens) → rank us < 90 → begins_union us ≡ false
-unfolding begins_union
-union_stops us low = rw (only_stops (word "union") 90 (omega arith) union_rank.1 us low, only_stops (symbol s.Bar) 90 (omega arith) bar_rank.1 us low) refl
+-- a token of the level is next
+stands_at : (n : ℕ) (t : Lex) (ts : Tokens) → has_level n t ≡ true → r.stands n (t ∷ ts) ≡ true
+unfolding next_level
+stands_at n t ts h = h
 
 no_word_at_bar : (us : Tokens) → is (word "union") (symbol s.Bar ∷ us) ≡ false
 unfolding begins lookup same
@@ -211,7 +226,7 @@ module _ (Single : Rel Expr) (single : Parser Expr) (d : ℕ) (single-moves : Al
 
   next_step_item : Item (Fits d) 140 (OneOf g.separators & g.StepRel Single) (begins g.separators) (r.next_step single)
   unfolding r.next_step
-  next_step_item = item-one_of (Fits d) StepBegins 140 130 g.separators (g.StepRel Single) (r.step single) (fits_after d) all_separators (omega arith) refl m.separators-move step_no_brace (m.step-moves Single single-moves) step_line
+  next_step_item = item-one_of (Fits d) StepBegins 140 130 g.separators (begins g.separators) (g.StepRel Single) (r.step single) (fits_after d) all_separators (omega arith) refl m.separators-move (λ t a ts h. begins_at g.separators t a ts h) step_no_brace (m.step-moves Single single-moves) step_line
 
   relative_line : Reads (Fits d) StepBegins 130 (g.Relative Single) (r.relative single)
   unfolding r.relative
@@ -295,7 +310,7 @@ module _ (Single : Rel Expr) (single : Parser Expr) (d : ℕ) (single-moves : Al
   unfolding r.simple_map r.map_item
   map_line =
       reads-chain (Fits d) PathBegins 130 120 (g.chain e.Map) (g.Path Single) (r.path single) (symbol s.Bang ▹ g.Path Single) (is (symbol s.Bang)) _ (fits_after d) path_line (m.path-moves Single single-moves)
-      (item-▹ (Fits d) PathBegins 130 (symbol s.Bang) (g.Path Single) (r.path single) (fits_after d) refl (rw map_rank.0 (omega arith)) refl path_no_brace (m.path-moves Single single-moves) path_line) (omega arith)
+      (item-▹ (Fits d) PathBegins 130 (symbol s.Bang) (is (symbol s.Bang)) (g.Path Single) (r.path single) (fits_after d) refl (rw map_rank.0 (omega arith)) refl (λ ts. is_at (symbol s.Bang) ts refl) path_no_brace (m.path-moves Single single-moves) path_line) (omega arith)
       (λ us low. table_stops (only (symbol s.Bang)) 120 (omega arith) map_rank.1 us low)
 
   unary_line : Reads (Fits d) Begins 120 (g.Unary Single) (r.unary single)
@@ -311,55 +326,62 @@ module _ (Single : Rel Expr) (single : Parser Expr) (d : ℕ) (single-moves : Al
 
   -- ---- operators
 
-  chained : {A : Type 0} (follow last rank_ : ℕ) (table : Table A) (value : Expr × List (A × Expr) → Expr) (P : Rel Expr) (p : Parser Expr)
-      → every (has_rank rank_) table ≡ true → rank_ < follow → last ≤ rank_ → rank_ ≤ 200 → every is_plain table ≡ true
+  -- a level whose operators stand in a table
+  chained : {A : Type 0} (n follow : ℕ) (table : Table A) (value : Expr × List (A × Expr) → Expr) (P : Rel Expr) (p : Parser Expr)
+      → 0 < n → n ≤ 9 → 110 - 10 * n < follow → every (has_rank (110 - 10 * n)) table ≡ true → every (has_level n) table ≡ true → every is_plain table ≡ true
       → AllMove P → Reads (Fits d) Begins follow P p
-      → Reads (Fits d) Begins last (value ⟨$⟩ P & Many (OneOf table & P)) (r.mapped value (r.both p (many (begins table) (r.both (one_of table) p))))
-  chained follow last rank_ table value P p ranks low within high all moves line =
-      reads-chain (Fits d) Begins follow last value P p (OneOf table & P) (begins table) _ (fits_after d) line moves
-      (item-one_of (Fits d) Begins follow rank_ table P p (fits_after d) ranks low all (move-one_of table all) no_brace moves line) (omega (arith, low, within))
-      (λ us low_us. table_stops table rank_ high ranks us (omega (arith, low_us, within)))
+      → Reads (Fits d) Begins (110 - 10 * n) (value ⟨$⟩ P & Many (OneOf table & P)) (r.mapped value (r.both p (many (r.stands n) (r.both (one_of table) p))))
+  chained n follow table value P p some within low ranks levels all moves line =
+      reads-chain (Fits d) Begins follow (110 - 10 * n) value P p (OneOf table & P) (r.stands n) _ (fits_after d) line moves
+      (item-one_of (Fits d) Begins follow (110 - 10 * n) table (r.stands n) P p (fits_after d) ranks low all (move-one_of table all) (λ t a ts h. stands_at n t ts (every_found (has_level n) table t a levels h)) no_brace moves line) (omega (arith, low))
+      (level_stops n some within)
 
-  joined : (follow last : ℕ) (t : Lex) (value : Expr × List Expr → Expr) (P : Rel Expr) (p : Parser Expr)
-      → every (has_rank last) (only t) ≡ true → rank_of t < follow → last ≤ follow → last ≤ 200 → is_plain t ≡ true → is_fixed t ≡ true
+  -- a level with one token between its operands
+  joined : (n follow : ℕ) (t : Lex) (value : Expr × List Expr → Expr) (P : Rel Expr) (p : Parser Expr)
+      → 0 < n → n ≤ 9 → 110 - 10 * n ≤ follow → rank_of t < follow → has_level n t ≡ true → is_plain t ≡ true → is_fixed t ≡ true
       → AllMove P → Reads (Fits d) Begins follow P p
-      → Reads (Fits d) Begins last (value ⟨$⟩ P & Many (t ▹ P)) (r.mapped value (r.both p (many (is t) (r.after t p))))
-  joined follow last t value P p ranks low within high all known moves line =
-      reads-chain (Fits d) Begins follow last value P p (t ▹ P) (is t) _ (fits_after d) line moves
-      (item-▹ (Fits d) Begins follow t P p (fits_after d) known low all no_brace moves line) within
-      (λ us low_us. table_stops (only t) last high ranks us low_us)
+      → Reads (Fits d) Begins (110 - 10 * n) (value ⟨$⟩ P & Many (t ▹ P)) (r.mapped value (r.both p (many (r.stands n) (r.after t p))))
+  joined n follow t value P p some within low rank_low level all known moves line =
+      reads-chain (Fits d) Begins follow (110 - 10 * n) value P p (t ▹ P) (r.stands n) _ (fits_after d) line moves
+      (item-▹ (Fits d) Begins follow t (r.stands n) P p (fits_after d) known rank_low all (λ ts. stands_at n t ts level) no_brace moves line) low
+      (level_stops n some within)
 
   arrow_line : Reads (Fits d) Begins 110 (g.Arrow Single) (r.arrow single)
   unfolding r.arrow r.arrow_item
   arrow_line =
       reads-chain (Fits d) Begins 120 110 (g.chain e.Arrow) (g.Unary Single) (r.unary single) (symbol s.Arrow ▹ g.Called Single) (is (symbol s.Arrow)) _ (fits_after d) unary_line (m.unary-moves Single single-moves)
-      (item-▹ (Fits d) p.PrimaryBegins 120 (symbol s.Arrow) (g.Called Single) (r.called single) (fits_after d) refl (rw arrow_rank.0 (omega arith)) refl called_no_brace (m.called-moves Single single-moves) (p.called_line Single single d single-moves single-begins single-reads 120)) (omega arith)
+      (item-▹ (Fits d) p.PrimaryBegins 120 (symbol s.Arrow) (is (symbol s.Arrow)) (g.Called Single) (r.called single) (fits_after d) refl (rw arrow_rank.0 (omega arith)) refl (λ ts. is_at (symbol s.Arrow) ts refl) called_no_brace (m.called-moves Single single-moves) (p.called_line Single single d single-moves single-begins single-reads 120)) (omega arith)
       (λ us low. table_stops (only (symbol s.Arrow)) 110 (omega arith) arrow_rank.1 us low)
 
   inter_line : Reads (Fits d) Begins 100 (g.Inter Single) (r.inter single)
   unfolding r.inter r.set_item
-  inter_line = chained 110 100 100 g.set_operators (g.chain e.SetOperation) (g.Arrow Single) (r.arrow single) all_sets (omega arith) (omega arith) (omega arith) refl (m.arrow-moves Single single-moves) arrow_line
+  inter_line = chained 1 110 g.set_operators (g.chain e.SetOperation) (g.Arrow Single) (r.arrow single) (omega arith) (omega arith) (omega arith) all_sets sets_level refl (m.arrow-moves Single single-moves) arrow_line
 
-  union_item : Item (Fits d) 100 ((word "union" ▹ g.Inter Single) ∣ (symbol s.Bar ▹ g.Inter Single)) begins_union (r.union_item single)
-  unfolding r.union_item begins_union
+  union_item : Item (Fits d) 100 ((word "union" ▹ g.Inter Single) ∣ (symbol s.Bar ▹ g.Inter Single)) (r.stands 2) (r.union_item single)
   union_item = record {
-    line = reads-∣ (Fits d) (λ ts. rank ts < 100) 100 (is (word "union")) _ _ _ _ by_word.line by_bar.line
-        (λ ts a us w low. by_word.tests ts a us w)
-        (λ ts a us w low. rw w.1 (no_word_at_bar w.0));
+    line = record {
+      reads = λ ts a us w low good. union_choice single ts ∙ choice.reads ts a us w low good;
+      starts = choice.starts;
+    };
     tests = tested;
     moves = move-∣ _ _ by_word.moves by_bar.moves;
     shorter = shortened;
   }
     where
-      by_word : Item (Fits d) 100 (word "union" ▹ g.Inter Single) (is (word "union")) (r.after (word "union") (r.inter single))
-      by_word = item-▹ (Fits d) Begins 100 (word "union") (g.Inter Single) (r.inter single) (fits_after d) refl (rw union_rank.0 (omega arith)) refl no_brace (m.inter-moves Single single-moves) inter_line
+      by_word : Item (Fits d) 100 (word "union" ▹ g.Inter Single) (r.stands 2) (r.after (word "union") (r.inter single))
+      by_word = item-▹ (Fits d) Begins 100 (word "union") (r.stands 2) (g.Inter Single) (r.inter single) (fits_after d) refl (rw union_rank.0 (omega arith)) refl (λ ts. stands_at 2 (word "union") ts union_rank.1) no_brace (m.inter-moves Single single-moves) inter_line
 
-      by_bar : Item (Fits d) 100 (symbol s.Bar ▹ g.Inter Single) (is (symbol s.Bar)) (r.after (symbol s.Bar) (r.inter single))
-      by_bar = item-▹ (Fits d) Begins 100 (symbol s.Bar) (g.Inter Single) (r.inter single) (fits_after d) refl (rw bar_rank.0 (omega arith)) refl no_brace (m.inter-moves Single single-moves) inter_line
+      by_bar : Item (Fits d) 100 (symbol s.Bar ▹ g.Inter Single) (r.stands 2) (r.after (symbol s.Bar) (r.inter single))
+      by_bar = item-▹ (Fits d) Begins 100 (symbol s.Bar) (r.stands 2) (g.Inter Single) (r.inter single) (fits_after d) refl (rw bar_rank.0 (omega arith)) refl (λ ts. stands_at 2 (symbol s.Bar) ts bar_rank.1) no_brace (m.inter-moves Single single-moves) inter_line
 
-      tested : (ts : Tokens) (a : Expr) (us : Tokens) → ((word "union" ▹ g.Inter Single) ∣ (symbol s.Bar ▹ g.Inter Single)) ts a us → (is (word "union") ts || is (symbol s.Bar) ts) ≡ true
-      tested ts a us (inl w) = rw (by_word.tests ts a us w) refl
-      tested ts a us (inr w) = rw (w.1, no_word_at_bar w.0) (is_at (symbol s.Bar) w.0 refl)
+      choice : Reads (Fits d) (λ ts. rank ts < 100) 100 ((word "union" ▹ g.Inter Single) ∣ (symbol s.Bar ▹ g.Inter Single)) (r.choose (is (word "union")) (r.after (word "union") (r.inter single)) (r.after (symbol s.Bar) (r.inter single)))
+      choice = reads-∣ (Fits d) (λ ts. rank ts < 100) 100 (is (word "union")) _ _ _ _ by_word.line by_bar.line
+          (λ ts a us w low. rw w.1 (is_at (word "union") w.0 refl))
+          (λ ts a us w low. rw w.1 (no_word_at_bar w.0))
+
+      tested : (ts : Tokens) (a : Expr) (us : Tokens) → ((word "union" ▹ g.Inter Single) ∣ (symbol s.Bar ▹ g.Inter Single)) ts a us → r.stands 2 ts ≡ true
+      tested ts a us (inl w) = by_word.tests ts a us w
+      tested ts a us (inr w) = by_bar.tests ts a us w
 
       shortened : (ts : Tokens) (a : Expr) (us : Tokens) → ((word "union" ▹ g.Inter Single) ∣ (symbol s.Bar ▹ g.Inter Single)) ts a us → length us < length ts
       shortened ts a us (inl w) = by_word.shorter ts a us w
@@ -368,39 +390,39 @@ module _ (Single : Rel Expr) (single : Parser Expr) (d : ℕ) (single-moves : Al
   union_line : Reads (Fits d) Begins 90 (g.Union Single) (r.union single)
   unfolding r.union
   union_line =
-      reads-chain (Fits d) Begins 100 90 (g.several e.Union) (g.Inter Single) (r.inter single) _ begins_union (r.union_item single) (fits_after d) inter_line (m.inter-moves Single single-moves)
-      union_item (omega arith) union_stops
+      reads-chain (Fits d) Begins 100 90 (g.several e.Union) (g.Inter Single) (r.inter single) _ (r.stands 2) (r.union_item single) (fits_after d) inter_line (m.inter-moves Single single-moves)
+      union_item (omega arith) (level_stops 2 (omega arith) (omega arith))
 
   product_line : Reads (Fits d) Begins 80 (g.Prod Single) (r.product single)
   unfolding r.product r.product_item
-  product_line = chained 90 80 80 g.product_operators (g.chain e.Product) (g.Union Single) (r.union single) all_products (omega arith) (omega arith) (omega arith) refl (m.union-moves Single single-moves) union_line
+  product_line = chained 3 90 g.product_operators (g.chain e.Product) (g.Union Single) (r.union single) (omega arith) (omega arith) (omega arith) all_products products_level refl (m.union-moves Single single-moves) union_line
 
   sum_line : Reads (Fits d) Begins 70 (g.Sum Single) (r.sum single)
   unfolding r.sum r.sum_item
-  sum_line = chained 80 70 70 g.signs (g.chain e.Sum) (g.Prod Single) (r.product single) all_signs (omega arith) (omega arith) (omega arith) refl (m.product-moves Single single-moves) product_line
+  sum_line = chained 4 80 g.signs (g.chain e.Sum) (g.Prod Single) (r.product single) (omega arith) (omega arith) (omega arith) all_signs signs_level refl (m.product-moves Single single-moves) product_line
 
   range_line : Reads (Fits d) Begins 60 (g.Range Single) (r.range single)
   unfolding r.range r.range_item
   range_line =
-      reads-optional (Fits d) Begins 70 60 g.ranged (g.Sum Single) (r.sum single) (word "to" ▹ g.Sum Single) (is (word "to")) _ (fits_after d) sum_line (m.sum-moves Single single-moves)
-      (item-▹ (Fits d) Begins 70 (word "to") (g.Sum Single) (r.sum single) (fits_after d) refl (rw to_rank.0 (omega arith)) refl no_brace (m.sum-moves Single single-moves) sum_line) (omega arith)
-      (λ us low. table_stops (only (word "to")) 60 (omega arith) to_rank.1 us low)
+      reads-optional (Fits d) Begins 70 60 g.ranged (g.Sum Single) (r.sum single) (word "to" ▹ g.Sum Single) (r.stands 5) _ (fits_after d) sum_line (m.sum-moves Single single-moves)
+      (item-▹ (Fits d) Begins 70 (word "to") (r.stands 5) (g.Sum Single) (r.sum single) (fits_after d) refl (rw to_rank.0 (omega arith)) refl (λ ts. stands_at 5 (word "to") ts to_rank.1) no_brace (m.sum-moves Single single-moves) sum_line) (omega arith)
+      (level_stops 5 (omega arith) (omega arith))
 
   concat_line : Reads (Fits d) Begins 50 (g.Concat Single) (r.concat single)
   unfolding r.concat r.concat_item
-  concat_line = joined 60 50 (symbol s.DoubleBar) (g.several e.Concat) (g.Range Single) (r.range single) concat_rank.1 (rw concat_rank.0 (omega arith)) (omega arith) (omega arith) refl refl (m.range-moves Single single-moves) range_line
+  concat_line = joined 6 60 (symbol s.DoubleBar) (g.several e.Concat) (g.Range Single) (r.range single) (omega arith) (omega arith) (omega arith) (rw concat_rank.0 (omega arith)) concat_rank.1 refl refl (m.range-moves Single single-moves) range_line
 
   comparison_line : Reads (Fits d) Begins 40 (g.Comp Single) (r.comparison single)
   unfolding r.comparison r.comparison_item
   comparison_line =
-      reads-optional (Fits d) Begins 50 40 g.compared (g.Concat Single) (r.concat single) (OneOf g.comparisons & g.Concat Single) (begins g.comparisons) _ (fits_after d) concat_line (m.concat-moves Single single-moves)
-      (item-one_of (Fits d) Begins 50 40 g.comparisons (g.Concat Single) (r.concat single) (fits_after d) all_comparisons (omega arith) refl m.comparisons-move no_brace (m.concat-moves Single single-moves) concat_line) (omega arith)
-      (table_stops g.comparisons 40 (omega arith) all_comparisons)
+      reads-optional (Fits d) Begins 50 40 g.compared (g.Concat Single) (r.concat single) (OneOf g.comparisons & g.Concat Single) (r.stands 7) _ (fits_after d) concat_line (m.concat-moves Single single-moves)
+      (item-one_of (Fits d) Begins 50 40 g.comparisons (r.stands 7) (g.Concat Single) (r.concat single) (fits_after d) all_comparisons (omega arith) refl m.comparisons-move (λ t a ts h. stands_at 7 t ts (every_found (has_level 7) g.comparisons t a comparisons_level h)) no_brace (m.concat-moves Single single-moves) concat_line) (omega arith)
+      (level_stops 7 (omega arith) (omega arith))
 
   and_line : Reads (Fits d) Begins 30 (g.And Single) (r.conjunction single)
   unfolding r.conjunction r.and_item
-  and_line = joined 40 30 (word "and") (g.several e.And) (g.Comp Single) (r.comparison single) and_rank.1 (rw and_rank.0 (omega arith)) (omega arith) (omega arith) refl refl (m.comparison-moves Single single-moves) comparison_line
+  and_line = joined 8 40 (word "and") (g.several e.And) (g.Comp Single) (r.comparison single) (omega arith) (omega arith) (omega arith) (rw and_rank.0 (omega arith)) and_rank.1 refl refl (m.comparison-moves Single single-moves) comparison_line
 
   pub or_line : Reads (Fits d) Begins 20 (g.Or Single) (r.disjunction single)
   unfolding r.disjunction r.or_item
-  or_line = joined 30 20 (word "or") (g.several e.Or) (g.And Single) (r.conjunction single) or_rank.1 (rw or_rank.0 (omega arith)) (omega arith) (omega arith) refl refl (m.and-moves Single single-moves) and_line
+  or_line = joined 9 30 (word "or") (g.several e.Or) (g.And Single) (r.conjunction single) (omega arith) (omega arith) (omega arith) (rw or_rank.0 (omega arith)) or_rank.1 refl refl (m.and-moves Single single-moves) and_line

@@ -148,7 +148,7 @@ module _ (Single : Rel Expr) (single : Parser Expr) (d : ℕ) (single-moves : Al
       → AllMove P → Reads (Deeper d) Start follow P p → Item (Deeper d) follow (symbol s.Comma ▹ P) (is (symbol s.Comma)) (r.after_comma p)
   unfolding r.after_comma
   comma_item Start follow P p low no_brace moves line =
-      item-▹ (Deeper d) Start follow (symbol s.Comma) P p (deeper_after d) refl (rw comma_rank low) refl no_brace moves line
+      item-▹ (Deeper d) Start follow (symbol s.Comma) (is (symbol s.Comma)) P p (deeper_after d) refl (rw comma_rank low) refl (λ ts. is_at (symbol s.Comma) ts refl) no_brace moves line
 
   pub commas_line : {A : Type 0} (Start : Tokens → Type 0) (follow : ℕ) (P : Rel A) (p : Parser A) → 10 < follow → ((ts : Tokens) → Start ts → begins_brace ts ≡ false)
       → AllMove P → Reads (Deeper d) Start follow P p → Reads (Deeper d) Start 10 (g.Commas P) (r.commas p)

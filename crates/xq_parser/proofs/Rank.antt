@@ -1,6 +1,7 @@
 -- How tightly the next token would bind to a phrase before it.
 use Rattle.std.proofs.Common.{◌≡◌, ℕ, ◌<◌, ◌≤◌, Bool, true, false, cond, List, [], ◌∷◌, Option, Some, None, refl, sym, subst, ◌∙◌, arith, inl, inr, ◌⊎◌}
-use Rattle.std.specs.Prelude.{codes, not, ◌&&◌}
+use Rattle.std.specs.Prelude.{codes, not, ◌&&◌, ◌==◌, ◌*◌, ◌-◌}
+use Rattle.std.proofs.lemmas.Bool.Decides.{nat_tests}
 use Rattle.std.specs.Str.{bytes_eq}
 use Rattle.std.proofs.lemmas.Slice.Eq.{bytes_eq-Decides}
 use Rattle.std.proofs.Math.Dec.{eqb}
@@ -10,8 +11,8 @@ use Rattle.xq_lexer.specs.declared.tokens.Symbol.{Symbol}
 use Rattle.xq_lexer.specs.declared.tokens.Symbol.TheVariants as s
 use Rattle.xq_parser.specs.Look.{Tokens, Table, lookup, same, same_symbol, word, begins_step}
 use Rattle.xq_parser.specs.Grammar as g
-use Rattle.xq_parser.specs.private.Reading.{is, begins, found, begins_brace, begins_call, begins_make, begins_literal, begins_primary, begins_flwor, begins_quantified, begins_if, begins_axis, begins_name_test}
-use Rattle.xq_parser.proofs.Tokens.{every, every_found, none_some}
+use Rattle.xq_parser.specs.private.Reading.{is, begins, found, begins_brace, begins_call, begins_make, begins_literal, begins_primary, begins_flwor, begins_quantified, begins_if, begins_axis, begins_name_test, word_levels, level_of, next_level, stands, or_zero as zero_or}
+use Rattle.xq_parser.proofs.Tokens.{every, every_found, none_some, some_is, chosen, same_is}
 
 -- the words that may follow a phrase of the same level
 abbrev word_ranks : Table ℕ
@@ -107,6 +108,71 @@ table_stops table r high all (t ∷ ts) low = elim (found_value (lookup table t)
       let bound : rank_of t ≤ 200 = omega (arith, e, high) in
       let small : rank_of t < r = rank-least t ts r bound low in
       absurd (omega (arith, e, small))
+]
+
+-- ---- the levels of the operators between operands
+
+abbrev AllRows : {A : Type 0} → (Lex → A → Type 0) → Table A → Type 0
+AllRows P [] = Unit {0}
+AllRows P (row ∷ rows) = P row.0 row.1 × AllRows P rows
+
+-- what holds of each row holds of a token that is found
+row_found : {A : Type 0} (P : Lex → A → Type 0) (table : Table A) (t : Lex) (a : A) → AllRows P table → lookup table t ≡ Some a → P t a
+unfolding lookup
+row_found P [] t a all h = absurd (none_some h)
+row_found P (row ∷ rows) t a all h = elim (chosen (same row.0 t) _ _ _ h) [
+  | inl p ↦ subst (λ (b : _). P t b) (some_is p.1) (subst (λ (u : Lex). P u row.1) (same_is row.0 t p.0) all.0)
+  | inr p ↦ row_found P rows t a all.1 p.1
+]
+
+abbrev HasRankOf : Lex → ℕ → Type 0
+HasRankOf t level = rank_of t ≡ 110 - 10 * level
+
+word_rows : AllRows HasRankOf word_levels
+unfolding rank_of lookup same
+word_rows = (refl, (refl, (refl, (refl, (refl, (refl, (refl, (refl, (refl, (refl, (refl, (refl, (refl, (refl, (refl, (refl, tt))))))))))))))))
+
+found_rank : (t : Lex) (o : Option ℕ) → lookup word_levels t ≡ o → 0 < zero_or o → HasRankOf t (zero_or o)
+found_rank t (Some level) h some = row_found HasRankOf word_levels t level word_rows h
+found_rank t None h some = absurd (omega (arith, some))
+
+-- an operator's rank is that of its level
+level_rank : (t : Lex) → 0 < level_of t → HasRankOf t (level_of t)
+unfolding level_of rank_of
+level_rank (name n) some = found_rank (name n) (lookup word_levels (name n)) refl some
+level_rank (prefixed p n) some = absurd (omega (arith, some))
+level_rank (int n) some = absurd (omega (arith, some))
+level_rank (dec n) some = absurd (omega (arith, some))
+level_rank (str n) some = absurd (omega (arith, some))
+level_rank (symbol s.Bar) some = refl
+level_rank (symbol s.Star) some = refl
+level_rank (symbol s.Plus) some = refl
+level_rank (symbol s.Minus) some = refl
+level_rank (symbol s.DoubleBar) some = refl
+level_rank (symbol s.Equal) some = refl
+level_rank (symbol s.NotEqual) some = refl
+level_rank (symbol s.Less) some = refl
+level_rank (symbol s.LessEqual) some = refl
+level_rank (symbol s.Greater) some = refl
+level_rank (symbol s.GreaterEqual) some = refl
+level_rank (symbol s.Precedes) some = refl
+level_rank (symbol s.Follows) some = refl
+level_rank (symbol _) some = absurd (omega (arith, some))
+
+abbrev pub has_level : ℕ → Lex → Bool
+has_level n t = level_of t == n
+
+-- no operator of a level is next where the next token binds less
+pub level_stops : (n : ℕ) → 0 < n → n ≤ 9 → (us : Tokens) → rank us < 110 - 10 * n → stands n us ≡ false
+unfolding next_level
+level_stops n some within [] low = grind (arith, nat_tests)
+level_stops n some within (t ∷ ts) low = elim (cases_Bool (level_of t == n)) [
+  | inl b ↦
+      let is : level_of t ≡ n = grind (arith, nat_tests) in
+      let e : rank_of t ≡ 110 - 10 * n = subst (HasRankOf t) is (level_rank t (omega (arith, is, some))) in
+      let small : rank_of t < 110 - 10 * n = rank-least t ts (110 - 10 * n) (omega (arith, e)) low in
+      absurd (omega (arith, e, small))
+  | inr b ↦ b
 ]
 
 -- ---- what begins a phrase

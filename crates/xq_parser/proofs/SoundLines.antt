@@ -1,11 +1,12 @@
 -- What is read is derived: line by line.
-use Rattle.std.proofs.Common.{◌≡◌, ℕ, zero, suc, Bool, true, false, List, [], ◌∷◌, Option, Some, None, refl, subst, inl, inr}
+use Rattle.std.proofs.Common.{◌≡◌, ℕ, zero, suc, Bool, true, false, List, [], ◌∷◌, Option, Some, None, refl, sym, ◌∙◌, subst, inl, inr}
 use Rattle.xq_lexer.specs.Lexeme.{Lex, name, prefixed, int, dec, str, symbol}
 use Rattle.std.specs.Prelude.{not}
 use Rattle.xq_lexer.specs.declared.tokens.Symbol.TheVariants as s
 use Rattle.xq_expressions.specs.declared.expressions.Expr.{Expr}
 use Rattle.xq_expressions.specs.declared.expressions.Expr.TheVariants as e
-use Rattle.xq_parser.specs.Look.{Tokens, lookup, begins_step}
+use Rattle.std.proofs.lemmas.Bool.{cases_Bool}
+use Rattle.xq_parser.specs.Look.{Tokens, lookup, word, begins_step}
 use Rattle.xq_parser.specs.Rel.{Rel, empty, ◌&◌, ◌▹◌, ◌⟨$⟩◌, ◌∣◌, Many}
 use Rattle.xq_parser.specs.Grammar as g
 use Rattle.xq_parser.specs.private.Reading.{Outcome, Parser, found, begins_lone, one_of, only}
@@ -67,6 +68,11 @@ variable_sound = sound-after _ _ _ qname_sound
 commas_sound : {A : Type 0} (P : Rel A) (p : Parser A) → IsSound P p → IsSound (g.Commas P) (r.commas p)
 unfolding r.commas r.after_comma
 commas_sound P p sp = sound-mapped _ _ _ (sound-both _ _ _ _ sp (sound-many _ _ _ (sound-after _ _ _ sp)))
+
+-- the operand of a union, by the two signs before it
+pub union_choice : (single : Parser Expr) (ts : Tokens) → r.union_item single ts ≡ r.choose (r.is (word "union")) (r.after (word "union") (r.inter single)) (r.after (symbol s.Bar) (r.inter single)) ts
+unfolding r.union_item r.union_sign
+union_choice single ts = elim (cases_Bool (r.is (word "union") ts)) [ inl b ↦ rw b refl | inr b ↦ rw b refl ]
 
 module _ (Single : Rel Expr) (single : Parser Expr) (single_sound : IsSound Single single) where
   pub whole_sound : IsSound (g.Whole Single) (r.whole single)
@@ -216,9 +222,13 @@ module _ (Single : Rel Expr) (single : Parser Expr) (single_sound : IsSound Sing
   unfolding r.inter r.set_item
   inter_sound = chain_sound _ _ _ _ _ _ arrow_sound (sound-both _ _ _ _ (sound-one_of _) arrow_sound)
 
+  union_item_sound : IsSound ((word "union" ▹ g.Inter Single) ∣ (symbol s.Bar ▹ g.Inter Single)) (r.union_item single)
+  union_item_sound ts a us h =
+      sound-choose (r.is (word "union")) _ _ _ _ (sound-after _ _ _ inter_sound) (sound-after _ _ _ inter_sound) ts a us (sym (union_choice single ts) ∙ h)
+
   union_sound : IsSound (g.Union Single) (r.union single)
-  unfolding r.union r.union_item
-  union_sound = chain_sound _ _ _ _ _ _ inter_sound (sound-choose _ _ _ _ _ (sound-after _ _ _ inter_sound) (sound-after _ _ _ inter_sound))
+  unfolding r.union
+  union_sound = chain_sound _ _ _ _ _ _ inter_sound union_item_sound
 
   product_sound : IsSound (g.Prod Single) (r.product single)
   unfolding r.product r.product_item

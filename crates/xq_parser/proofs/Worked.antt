@@ -121,11 +121,11 @@ by_refusing [] w = tt
 by_refusing (ts ∷ more) w = ((λ a d. none_some (sym w.1 ∙ query_reads 3 ts a w.0 d)), by_refusing more w.2)
 
 all_read : AllRead derived
-unfolding r.begins r.one_of r.many_from r.many r.begins_call r.begins_make r.begins_literal r.begins_primary r.begins_lone r.begins_flwor r.begins_quantified r.begins_if r.qname r.call_name r.variable r.after_comma r.commas r.whole r.governed r.inside r.body r.computed r.name_of_node r.name_of_instruction r.make_named r.make_instruction r.make_unnamed r.make r.argument_list r.arguments r.call r.parenthesised r.call_or_make r.primary r.name_or_any r.plain_kind r.instruction_kind r.kind_argument r.element_kind r.attribute_kind r.kind_test r.node_test r.along_axis r.along_attributes r.axis_step r.begins_union r.empty_words r.direction_word r.position r.predicate r.predicates r.primary_step r.predicated r.step r.next_step r.relative r.from_root r.from_below r.path r.unary r.set_item r.inter r.union_item r.union r.product_item r.product r.sum_item r.sum r.range_item r.range r.concat_item r.concat r.comparison_item r.comparison r.and_item r.conjunction r.or_item r.disjunction r.tested r.branches r.conditional r.quantifier_binding r.quantified r.order_spec r.order_by r.order_clause r.group_spec r.group_clause r.filter_clause r.let_binding r.let_clause r.for_binding r.for_clause r.later_clause r.clause_ r.first_clause r.clauses r.flwor r.any r.single r.query lookup same same_symbol r.simple_map r.map_item r.arrow r.arrow_item r.called r.allowing_words r.count_clause
+unfolding r.begins r.one_of r.many_from r.many r.begins_call r.begins_make r.begins_literal r.begins_primary r.begins_lone r.begins_flwor r.begins_quantified r.begins_if r.qname r.call_name r.variable r.after_comma r.commas r.whole r.governed r.inside r.body r.computed r.name_of_node r.name_of_instruction r.make_named r.make_instruction r.make_unnamed r.make r.argument_list r.arguments r.call r.parenthesised r.call_or_make r.primary r.name_or_any r.plain_kind r.instruction_kind r.kind_argument r.element_kind r.attribute_kind r.kind_test r.node_test r.along_axis r.along_attributes r.axis_step r.next_level r.level_of r.union_sign r.empty_words r.direction_word r.position r.predicate r.predicates r.primary_step r.predicated r.step r.next_step r.relative r.from_root r.from_below r.path r.unary r.set_item r.inter r.union_item r.union r.product_item r.product r.sum_item r.sum r.range_item r.range r.concat_item r.concat r.comparison_item r.comparison r.and_item r.conjunction r.or_item r.disjunction r.tested r.branches r.conditional r.quantifier_binding r.quantified r.order_spec r.order_by r.order_clause r.group_spec r.group_clause r.filter_clause r.let_binding r.let_clause r.for_binding r.for_clause r.later_clause r.clause_ r.first_clause r.clauses r.flwor r.any r.single r.query lookup same same_symbol r.simple_map r.map_item r.arrow r.arrow_item r.called r.allowing_words r.count_clause
 all_read = (refl, (refl, (refl, (refl, (refl, (refl, (refl, (refl, (refl, (refl, (refl, tt)))))))))))
 
 none_read : NoneRead underived
-unfolding r.begins r.one_of r.many_from r.many r.begins_call r.begins_make r.begins_literal r.begins_primary r.begins_lone r.begins_flwor r.begins_quantified r.begins_if r.qname r.call_name r.variable r.after_comma r.commas r.whole r.governed r.inside r.body r.computed r.name_of_node r.name_of_instruction r.make_named r.make_instruction r.make_unnamed r.make r.argument_list r.arguments r.call r.parenthesised r.call_or_make r.primary r.name_or_any r.plain_kind r.instruction_kind r.kind_argument r.element_kind r.attribute_kind r.kind_test r.node_test r.along_axis r.along_attributes r.axis_step r.begins_union r.empty_words r.direction_word r.position r.predicate r.predicates r.primary_step r.predicated r.step r.next_step r.relative r.from_root r.from_below r.path r.unary r.set_item r.inter r.union_item r.union r.product_item r.product r.sum_item r.sum r.range_item r.range r.concat_item r.concat r.comparison_item r.comparison r.and_item r.conjunction r.or_item r.disjunction r.tested r.branches r.conditional r.quantifier_binding r.quantified r.order_spec r.order_by r.order_clause r.group_spec r.group_clause r.filter_clause r.let_binding r.let_clause r.for_binding r.for_clause r.later_clause r.clause_ r.first_clause r.clauses r.flwor r.any r.single r.query lookup same same_symbol r.simple_map r.map_item r.arrow r.arrow_item r.called r.allowing_words r.count_clause
+unfolding r.begins r.one_of r.many_from r.many r.begins_call r.begins_make r.begins_literal r.begins_primary r.begins_lone r.begins_flwor r.begins_quantified r.begins_if r.qname r.call_name r.variable r.after_comma r.commas r.whole r.governed r.inside r.body r.computed r.name_of_node r.name_of_instruction r.make_named r.make_instruction r.make_unnamed r.make r.argument_list r.arguments r.call r.parenthesised r.call_or_make r.primary r.name_or_any r.plain_kind r.instruction_kind r.kind_argument r.element_kind r.attribute_kind r.kind_test r.node_test r.along_axis r.along_attributes r.axis_step r.next_level r.level_of r.union_sign r.empty_words r.direction_word r.position r.predicate r.predicates r.primary_step r.predicated r.step r.next_step r.relative r.from_root r.from_below r.path r.unary r.set_item r.inter r.union_item r.union r.product_item r.product r.sum_item r.sum r.range_item r.range r.concat_item r.concat r.comparison_item r.comparison r.and_item r.conjunction r.or_item r.disjunction r.tested r.branches r.conditional r.quantifier_binding r.quantified r.order_spec r.order_by r.order_clause r.group_spec r.group_clause r.filter_clause r.let_binding r.let_clause r.for_binding r.for_clause r.later_clause r.clause_ r.first_clause r.clauses r.flwor r.any r.single r.query lookup same same_symbol r.simple_map r.map_item r.arrow r.arrow_item r.called r.allowing_words r.count_clause
 none_read = (omega arith, refl, (omega arith, refl, (omega arith, refl, (omega arith, refl, (omega arith, refl, tt)))))
 
 all_derive : AllDerive derived

@@ -382,7 +382,7 @@ impl<
 
     ghost ready = { λ it. Nests it.0.now.depth (F.pre it.0.now.single) (F.post it.0.now.single) };
 
-    ghost test = { spec.begins spec.clause_words };
+    ghost test = { λ _. spec.begins spec.clause_words };
 
     ghost reader = { λ it. spec.clause_ (spec.single it.0.now.depth) };
 

@@ -3,6 +3,7 @@
 
 mod flwor;
 pub mod laws;
+mod levels;
 mod lists;
 mod lookahead;
 mod node_tests;

@@ -33,12 +33,12 @@ pub(crate) trait Repeated<'a> {
 
     ghost ready: { Self → Type 0 };
 
-    ghost test: { Tokens → Bool };
+    ghost test: { Self → Tokens → Bool };
 
     ghost reader: { Self → spec.Parser Self.Value };
 
     fn follows(&self, tokens: &[Token]) -> bool
-        ensures { result ≡ test (lexemes tokens.now) };
+        ensures { result ≡ test self.now (lexemes tokens.now) };
 
     fn next(&self, tokens: &'a [Token]) -> Result<(Self::Value, &'a [Token]), Fault>
         requires { ready self.now }
@@ -52,7 +52,8 @@ pub(crate) fn many<'a, R: Repeated<'a>>(
     tokens: &'a [Token],
 ) -> Result<(Items<R::Value>, &'a [Token]), Fault>
     requires { R.ready phrase.now }
-    ensures { Parses result (spec.many R.test (R.reader phrase.now) (lexemes tokens.now)) }
+    ensures { Parses result
+        (spec.many (R.test phrase.now) (R.reader phrase.now) (lexemes tokens.now)) }
 {
     if !phrase.follows(tokens) {
         return Ok((Items::new(alloc), tokens));
@@ -80,7 +81,7 @@ impl<'a, 'p, P: Phrase<'a>> Repeated<'a> for AfterComma<'p, P> {
 
     ghost ready = { λ it. P.ready it.0.now };
 
-    ghost test = { spec.is (symbol_lex s.Comma) };
+    ghost test = { λ _. spec.is (symbol_lex s.Comma) };
 
     ghost reader = { λ it. spec.after_comma (P.reader it.0.now) };
 

@@ -379,11 +379,3 @@ pub(crate) fn begins_if(tokens: &[Token]) -> bool
         _ => false,
     }
 }
-
-/// Whether the next token is one of the two signs of a union.
-#[tactic(auto, unfolding(crate::specs::private::Reading::begins_union))]
-pub(crate) fn begins_union(tokens: &[Token]) -> bool
-    ensures { result ≡ spec.begins_union (lexemes tokens.now) }
-{
-    is_word("union", tokens) || is_symbol(Symbol::Bar, tokens)
-}

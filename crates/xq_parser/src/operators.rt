@@ -1,28 +1,52 @@
 //! Operators, from maps to disjunctions (XQuery 3.1, sections 3.4 to 3.8, 3.19 and 3.20).
-ghost use Rattle.std.specs.Prelude.{◌≡◌, true};
+ghost use Rattle.std.specs.Prelude.{◌≡◌, ◌<◌, ◌≤◌, ◌-◌, true};
 ghost use Rattle.xq_lexer.specs.Lexeme.{lexemes, symbol as symbol_lex};
 ghost use Rattle.xq_lexer.specs.declared.tokens.Symbol.TheVariants as s;
-ghost use Rattle.xq_parser.specs.Look as look;
 ghost use Rattle.xq_parser.specs.Grammar as g;
 ghost use Rattle.xq_parser.specs.private.Behind as behind;
 ghost use Rattle.xq_parser.specs.private.Reading as spec;
-ghost use Rattle.xq_parser.specs.private.Parses.{Nests, Parses};
+ghost use Rattle.xq_parser.specs.private.Parses.{Nests, OperandReady, Operands, Parses, ParsesAs};
 
+use crate::levels::{AND, COMPARISON, CONCAT, PRODUCT, RANGE, SET, SUM, UNION, next_level};
 use crate::lists::{Repeated, many};
-use crate::lookahead::{
-    begins_union, ends_expression, expect_symbol, expect_word, is_symbol, is_word,
-};
+use crate::lookahead::{ends_expression, expect_symbol, expect_word, is_symbol, is_word};
 use crate::primaries::Grammar;
-use crate::values::{
-    arrow, compared, concatenation, conjunction, disjunction, product, ranged, set_operation,
-    signed, simple_map, sum, united,
-};
-use crate::words::{begins, one_of};
+use crate::values::{Chains, arrow, chained, compared, joined, ranged, signed, simple_map};
+use crate::words::{Listed, begins, one_of};
 use sqlite_items::{Boxed, Items};
 use std::alloc::Global;
+use std::marker::PhantomData;
 use xq_atoms::Fault;
 use xq_expressions::{ComparisonOperator, Expr, ProductOperator, QName, SetOperator, Sign};
 use xq_lexer::{Symbol, Token};
+
+/// The tokens after a sign of a union.
+#[tactic(auto, unfolding(crate::specs::private::Reading::union_sign))]
+fn union_sign(tokens: &[Token]) -> Result<&[Token], Fault>
+    ensures { ParsesAs (λ x. (tt, lexemes x.now)) result (spec.union_sign (lexemes tokens.now)) }
+{
+    if is_word("union", tokens) {
+        expect_word("union", tokens)
+    } else {
+        expect_symbol(Symbol::Bar, tokens)
+    }
+}
+
+/// The tokens after the one between the operands of a level that makes one list of them.
+#[tactic(auto, unfolding(crate::specs::private::Behind::joint))]
+fn joint(level: u8, tokens: &[Token]) -> Result<&[Token], Fault>
+    ensures { ParsesAs (λ x. (tt, lexemes x.now)) result (behind.joint level (lexemes tokens.now)) }
+{
+    if level == UNION {
+        union_sign(tokens)
+    } else if level == CONCAT {
+        expect_symbol(Symbol::DoubleBar, tokens)
+    } else if level == AND {
+        expect_word("and", tokens)
+    } else {
+        expect_word("or", tokens)
+    }
+}
 
 impl<'a, F: Fn(Global, usize, &'a [Token]) -> Result<(Boxed<Expr>, &'a [Token]), Fault>> Grammar<
     F,
@@ -64,16 +88,6 @@ impl<'a, F: Fn(Global, usize, &'a [Token]) -> Result<(Boxed<Expr>, &'a [Token]),
         Ok((signed(self.alloc, signs, operand)?, rest))
     }
 
-    /// Calls after `=>`.
-    #[tactic(auto, unfolding(crate::specs::private::Reading::arrow))]
-    fn arrow(&self, tokens: &'a [Token]) -> Result<(Boxed<Expr>, &'a [Token]), Fault>
-        requires { Nests self.now.depth (F.pre self.now.single) (F.post self.now.single) }
-        ensures { Parses result (spec.arrow (spec.single self.now.depth) (lexemes tokens.now)) }
-    {
-        let (first, rest) = self.unary(tokens)?;
-        self.with_calls(first, rest)
-    }
-
     /// An operand, and the calls after each `=>` behind it.
     #[inline(always)]
     fn with_calls(
@@ -88,365 +102,220 @@ impl<'a, F: Fn(Global, usize, &'a [Token]) -> Result<(Boxed<Expr>, &'a [Token]),
         let (calls, rest) = many(self.alloc, &ArrowItem(self), rest)?;
         Ok((arrow(self.alloc, first, calls)?, rest))
     }
+}
 
-    /// Intersections and differences.
-    #[tactic(auto, unfolding(crate::specs::private::Reading::inter))]
-    fn intersection(&self, tokens: &'a [Token]) -> Result<(Boxed<Expr>, &'a [Token]), Fault>
-        requires { Nests self.now.depth (F.pre self.now.single) (F.post self.now.single) }
-        ensures { Parses result (spec.inter (spec.single self.now.depth) (lexemes tokens.now)) }
+/// Operators between operands up to a level, over what reads operands of tighter levels.
+#[derive(Clone, Copy)]
+pub(crate) struct Operators<'g, F, G> {
+    pub(crate) grammar: &'g Grammar<F>,
+    /// The loosest level of an operator.
+    pub(crate) level: u8,
+    pub(crate) operand: G,
+}
+
+impl<
+    'a,
+    'g,
+    F: Fn(Global, usize, &'a [Token]) -> Result<(Boxed<Expr>, &'a [Token]), Fault>,
+    G: Fn(Global, usize, u8, &'a [Token]) -> Result<(Boxed<Expr>, &'a [Token]), Fault>,
+> Operators<'g, F, G> {
+    /// An operand with operators of a tighter level.
+    fn operand(&self, level: u8, tokens: &'a [Token]) -> Result<(Boxed<Expr>, &'a [Token]), Fault>
+        requires operands { Operands self.now.grammar.now.depth self.now.level
+            (G.pre self.now.operand) (G.post self.now.operand) }
+        requires tighter { level < self.now.level }
+        ensures { Parses result
+            (spec.level (spec.single self.now.grammar.now.depth) level (lexemes tokens.now)) }
     {
-        let (first, rest) = self.arrow(tokens)?;
-        self.with_sets(first, rest)
+        (self.operand)(self.grammar.alloc, self.grammar.depth, level, tokens)
     }
 
-    /// An operand, and those of intersections and differences behind it.
-    #[inline(always)]
-    fn with_sets(
+    /// An operand, and those behind it of a level that makes a chain of them.
+    fn with_chain<T: Chains + Drop>(
         &self,
+        level: u8,
         first: Boxed<Expr>,
         rest: &'a [Token],
     ) -> Result<(Boxed<Expr>, &'a [Token]), Fault>
-        requires { Nests self.now.depth (F.pre self.now.single) (F.post self.now.single) }
+        requires operands { Operands self.now.grammar.now.depth self.now.level
+            (G.pre self.now.operand) (G.post self.now.operand) }
+        requires some { 0 < level }
+        requires within { level ≤ self.now.level }
         ensures { Parses result
-            (behind.with_sets (spec.single self.now.depth) first (lexemes rest.now)) }
+            (behind.chained (spec.single self.now.grammar.now.depth) level T.table T.chain first
+            (lexemes rest.now)) }
     {
-        let (more, rest) = many(self.alloc, &SetItem(self), rest)?;
-        Ok((set_operation(self.alloc, first, more)?, rest))
+        let items = Pair::<F, G, T> {
+            operators: self,
+            level,
+            operator: PhantomData,
+        };
+        let (more, rest) = many(self.grammar.alloc, &items, rest)?;
+        Ok((chained(self.grammar.alloc, first, more)?, rest))
     }
 
-    /// Unions.
-    #[tactic(auto, unfolding(crate::specs::private::Reading::union))]
-    fn unions(&self, tokens: &'a [Token]) -> Result<(Boxed<Expr>, &'a [Token]), Fault>
-        requires { Nests self.now.depth (F.pre self.now.single) (F.post self.now.single) }
-        ensures { Parses result (spec.union (spec.single self.now.depth) (lexemes tokens.now)) }
-    {
-        let (first, rest) = self.intersection(tokens)?;
-        self.with_unions(first, rest)
-    }
-
-    /// An operand, and those of unions behind it.
-    #[inline(always)]
-    fn with_unions(
-        &self,
-        first: Boxed<Expr>,
-        rest: &'a [Token],
-    ) -> Result<(Boxed<Expr>, &'a [Token]), Fault>
-        requires { Nests self.now.depth (F.pre self.now.single) (F.post self.now.single) }
-        ensures { Parses result
-            (behind.with_unions (spec.single self.now.depth) first (lexemes rest.now)) }
-    {
-        let (more, rest) = many(self.alloc, &UnionItem(self), rest)?;
-        Ok((united(self.alloc, first, more)?, rest))
-    }
-
-    /// Products.
-    #[tactic(auto, unfolding(crate::specs::private::Reading::product))]
-    fn product(&self, tokens: &'a [Token]) -> Result<(Boxed<Expr>, &'a [Token]), Fault>
-        requires { Nests self.now.depth (F.pre self.now.single) (F.post self.now.single) }
-        ensures { Parses result (spec.product (spec.single self.now.depth) (lexemes tokens.now)) }
-    {
-        let (first, rest) = self.unions(tokens)?;
-        self.with_factors(first, rest)
-    }
-
-    /// A factor, and those behind it.
-    #[inline(always)]
-    fn with_factors(
-        &self,
-        first: Boxed<Expr>,
-        rest: &'a [Token],
-    ) -> Result<(Boxed<Expr>, &'a [Token]), Fault>
-        requires { Nests self.now.depth (F.pre self.now.single) (F.post self.now.single) }
-        ensures { Parses result
-            (behind.with_factors (spec.single self.now.depth) first (lexemes rest.now)) }
-    {
-        let (more, rest) = many(self.alloc, &ProductItem(self), rest)?;
-        Ok((product(self.alloc, first, more)?, rest))
-    }
-
-    /// Sums.
-    #[tactic(auto, unfolding(crate::specs::private::Reading::sum))]
-    fn sum(&self, tokens: &'a [Token]) -> Result<(Boxed<Expr>, &'a [Token]), Fault>
-        requires { Nests self.now.depth (F.pre self.now.single) (F.post self.now.single) }
-        ensures { Parses result (spec.sum (spec.single self.now.depth) (lexemes tokens.now)) }
-    {
-        let (first, rest) = self.product(tokens)?;
-        self.with_terms(first, rest)
-    }
-
-    /// A term, and those behind it.
-    #[inline(always)]
-    fn with_terms(
-        &self,
-        first: Boxed<Expr>,
-        rest: &'a [Token],
-    ) -> Result<(Boxed<Expr>, &'a [Token]), Fault>
-        requires { Nests self.now.depth (F.pre self.now.single) (F.post self.now.single) }
-        ensures { Parses result
-            (behind.with_terms (spec.single self.now.depth) first (lexemes rest.now)) }
-    {
-        let (more, rest) = many(self.alloc, &SumItem(self), rest)?;
-        Ok((sum(self.alloc, first, more)?, rest))
-    }
-
-    #[tactic(auto, unfolding(crate::specs::private::Reading::range_item))]
-    fn range_item(&self, tokens: &'a [Token]) -> Result<(Boxed<Expr>, &'a [Token]), Fault>
-        requires { Nests self.now.depth (F.pre self.now.single) (F.post self.now.single) }
-        ensures { Parses result
-            (spec.range_item (spec.single self.now.depth) (lexemes tokens.now)) }
-    {
-        let rest = expect_word("to", tokens)?;
-        self.sum(rest)
-    }
-
-    fn range_end(&self, tokens: &'a [Token]) -> Result<(Option<Boxed<Expr>>, &'a [Token]), Fault>
-        requires { Nests self.now.depth (F.pre self.now.single) (F.post self.now.single) }
-        ensures { Parses result
-            (spec.maybe (spec.is (look.word "to")) (spec.range_item (spec.single self.now.depth))
-            (lexemes tokens.now)) }
-    {
-        if is_word("to", tokens) {
-            let (item, rest) = self.range_item(tokens)?;
-            Ok((Some(item), rest))
-        } else {
-            Ok((None, tokens))
-        }
-    }
-
-    /// Ranges.
-    #[tactic(auto, unfolding(crate::specs::private::Reading::range))]
-    fn range(&self, tokens: &'a [Token]) -> Result<(Boxed<Expr>, &'a [Token]), Fault>
-        requires { Nests self.now.depth (F.pre self.now.single) (F.post self.now.single) }
-        ensures { Parses result (spec.range (spec.single self.now.depth) (lexemes tokens.now)) }
-    {
-        let (first, rest) = self.sum(tokens)?;
-        self.with_end(first, rest)
-    }
-
-    /// What a range begins with, and its end behind it.
-    #[inline(always)]
+    /// What a range begins with, and its end behind `to`.
     fn with_end(
         &self,
         first: Boxed<Expr>,
-        rest: &'a [Token],
-    ) -> Result<(Boxed<Expr>, &'a [Token]), Fault>
-        requires { Nests self.now.depth (F.pre self.now.single) (F.post self.now.single) }
-        ensures { Parses result
-            (behind.with_end (spec.single self.now.depth) first (lexemes rest.now)) }
-    {
-        let (more, rest) = self.range_end(rest)?;
-        Ok((ranged(self.alloc, first, more)?, rest))
-    }
-
-    /// Concatenations.
-    #[tactic(auto, unfolding(crate::specs::private::Reading::concat))]
-    fn concat(&self, tokens: &'a [Token]) -> Result<(Boxed<Expr>, &'a [Token]), Fault>
-        requires { Nests self.now.depth (F.pre self.now.single) (F.post self.now.single) }
-        ensures { Parses result (spec.concat (spec.single self.now.depth) (lexemes tokens.now)) }
-    {
-        let (first, rest) = self.range(tokens)?;
-        self.with_texts(first, rest)
-    }
-
-    /// An operand, and those of concatenations behind it.
-    #[inline(always)]
-    fn with_texts(
-        &self,
-        first: Boxed<Expr>,
-        rest: &'a [Token],
-    ) -> Result<(Boxed<Expr>, &'a [Token]), Fault>
-        requires { Nests self.now.depth (F.pre self.now.single) (F.post self.now.single) }
-        ensures { Parses result
-            (behind.with_texts (spec.single self.now.depth) first (lexemes rest.now)) }
-    {
-        let (more, rest) = many(self.alloc, &ConcatItem(self), rest)?;
-        Ok((concatenation(self.alloc, first, more)?, rest))
-    }
-
-    #[tactic(auto, unfolding(crate::specs::private::Reading::comparison_item))]
-    fn comparison_item(
-        &self,
         tokens: &'a [Token],
-    ) -> Result<((ComparisonOperator, Boxed<Expr>), &'a [Token]), Fault>
-        requires { Nests self.now.depth (F.pre self.now.single) (F.post self.now.single) }
+    ) -> Result<(Boxed<Expr>, &'a [Token]), Fault>
+        requires operands { Operands self.now.grammar.now.depth self.now.level
+            (G.pre self.now.operand) (G.post self.now.operand) }
+        requires within { 5 ≤ self.now.level }
+        requires stands { spec.stands 5 (lexemes tokens.now) ≡ true }
         ensures { Parses result
-            (spec.comparison_item (spec.single self.now.depth) (lexemes tokens.now)) }
+            (behind.with_end (spec.single self.now.grammar.now.depth) first (lexemes tokens.now)) }
     {
-        let (operator, rest) = one_of::<ComparisonOperator>(tokens)?;
-        let (operand, rest) = self.concat(rest)?;
-        Ok(((operator, operand), rest))
-    }
-
-    fn comparison_end(
-        &self,
-        tokens: &'a [Token],
-    ) -> Result<(Option<(ComparisonOperator, Boxed<Expr>)>, &'a [Token]), Fault>
-        requires { Nests self.now.depth (F.pre self.now.single) (F.post self.now.single) }
-        ensures { Parses result
-            (spec.maybe (spec.begins g.comparisons)
-            (spec.comparison_item (spec.single self.now.depth)) (lexemes tokens.now)) }
-    {
-        if begins::<ComparisonOperator>(tokens) {
-            let (item, rest) = self.comparison_item(tokens)?;
-            Ok((Some(item), rest))
-        } else {
-            Ok((None, tokens))
-        }
-    }
-
-    /// Comparisons.
-    #[tactic(auto, unfolding(crate::specs::private::Reading::comparison))]
-    fn comparison(&self, tokens: &'a [Token]) -> Result<(Boxed<Expr>, &'a [Token]), Fault>
-        requires { Nests self.now.depth (F.pre self.now.single) (F.post self.now.single) }
-        ensures { Parses result
-            (spec.comparison (spec.single self.now.depth) (lexemes tokens.now)) }
-    {
-        let (first, rest) = self.concat(tokens)?;
-        self.with_compared(first, rest)
+        let rest = expect_word("to", tokens)?;
+        let (last, rest) = self.operand(RANGE - 1, rest)?;
+        Ok((ranged(self.grammar.alloc, first, last)?, rest))
     }
 
     /// An operand, and what it is compared with behind it.
-    #[inline(always)]
     fn with_compared(
         &self,
         first: Boxed<Expr>,
-        rest: &'a [Token],
-    ) -> Result<(Boxed<Expr>, &'a [Token]), Fault>
-        requires { Nests self.now.depth (F.pre self.now.single) (F.post self.now.single) }
-        ensures { Parses result
-            (behind.with_compared (spec.single self.now.depth) first (lexemes rest.now)) }
-    {
-        let (more, rest) = self.comparison_end(rest)?;
-        Ok((compared(self.alloc, first, more)?, rest))
-    }
-
-    /// Conjunctions.
-    #[tactic(auto, unfolding(crate::specs::private::Reading::conjunction))]
-    fn conjunction(&self, tokens: &'a [Token]) -> Result<(Boxed<Expr>, &'a [Token]), Fault>
-        requires { Nests self.now.depth (F.pre self.now.single) (F.post self.now.single) }
-        ensures { Parses result
-            (spec.conjunction (spec.single self.now.depth) (lexemes tokens.now)) }
-    {
-        let (first, rest) = self.comparison(tokens)?;
-        self.with_ands(first, rest)
-    }
-
-    /// An operand, and those after each `and` behind it.
-    #[inline(always)]
-    fn with_ands(
-        &self,
-        first: Boxed<Expr>,
-        rest: &'a [Token],
-    ) -> Result<(Boxed<Expr>, &'a [Token]), Fault>
-        requires { Nests self.now.depth (F.pre self.now.single) (F.post self.now.single) }
-        ensures { Parses result
-            (behind.with_ands (spec.single self.now.depth) first (lexemes rest.now)) }
-    {
-        let (more, rest) = many(self.alloc, &AndItem(self), rest)?;
-        Ok((conjunction(self.alloc, first, more)?, rest))
-    }
-
-    /// An operand, and those after each `or` behind it.
-    #[inline(always)]
-    fn with_ors(
-        &self,
-        first: Boxed<Expr>,
-        rest: &'a [Token],
-    ) -> Result<(Boxed<Expr>, &'a [Token]), Fault>
-        requires { Nests self.now.depth (F.pre self.now.single) (F.post self.now.single) }
-        ensures { Parses result
-            (behind.with_ors (spec.single self.now.depth) first (lexemes rest.now)) }
-    {
-        let (more, rest) = many(self.alloc, &OrItem(self), rest)?;
-        Ok((disjunction(self.alloc, first, more)?, rest))
-    }
-
-    /// An operand, and what follows it up to products.
-    #[tactic(auto, unfolding(crate::specs::private::Behind::up_to_factors))]
-    fn up_to_factors(
-        &self,
-        first: Boxed<Expr>,
-        rest: &'a [Token],
-    ) -> Result<(Boxed<Expr>, &'a [Token]), Fault>
-        requires { Nests self.now.depth (F.pre self.now.single) (F.post self.now.single) }
-        ensures { Parses result
-            (behind.up_to_factors (spec.single self.now.depth) first (lexemes rest.now)) }
-    {
-        let (first, rest) = self.with_calls(first, rest)?;
-        let (first, rest) = self.with_sets(first, rest)?;
-        let (first, rest) = self.with_unions(first, rest)?;
-        self.with_factors(first, rest)
-    }
-
-    /// An operand, and what follows it up to comparisons.
-    #[tactic(auto, unfolding(crate::specs::private::Behind::up_to_compared))]
-    fn up_to_compared(
-        &self,
-        first: Boxed<Expr>,
-        rest: &'a [Token],
-    ) -> Result<(Boxed<Expr>, &'a [Token]), Fault>
-        requires { Nests self.now.depth (F.pre self.now.single) (F.post self.now.single) }
-        ensures { Parses result
-            (behind.up_to_compared (spec.single self.now.depth) first (lexemes rest.now)) }
-    {
-        let (first, rest) = self.up_to_factors(first, rest)?;
-        let (first, rest) = self.with_terms(first, rest)?;
-        let (first, rest) = self.with_end(first, rest)?;
-        let (first, rest) = self.with_texts(first, rest)?;
-        self.with_compared(first, rest)
-    }
-
-    /// An operand, and all operators that follow it with their other operands.
-    #[tactic(auto, unfolding(crate::specs::private::Behind::operators))]
-    fn operators(
-        &self,
-        first: Boxed<Expr>,
-        rest: &'a [Token],
-    ) -> Result<(Boxed<Expr>, &'a [Token]), Fault>
-        requires { Nests self.now.depth (F.pre self.now.single) (F.post self.now.single) }
-        ensures { Parses result
-            (behind.operators (spec.single self.now.depth) first (lexemes rest.now)) }
-    {
-        let (first, rest) = self.up_to_compared(first, rest)?;
-        let (first, rest) = self.with_ands(first, rest)?;
-        self.with_ors(first, rest)
-    }
-
-    /// Operands with operators between them, from disjunctions down. Most expressions are an
-    /// operand alone: behind one no operator is looked for where a token stands that ends it.
-    pub(crate) fn disjunction(
-        &self,
         tokens: &'a [Token],
     ) -> Result<(Boxed<Expr>, &'a [Token]), Fault>
-        requires { Nests self.now.depth (F.pre self.now.single) (F.post self.now.single) }
+        requires operands { Operands self.now.grammar.now.depth self.now.level
+            (G.pre self.now.operand) (G.post self.now.operand) }
+        requires within { 7 ≤ self.now.level }
+        requires stands { spec.stands 7 (lexemes tokens.now) ≡ true }
         ensures { Parses result
-            (spec.disjunction (spec.single self.now.depth) (lexemes tokens.now)) }
+            (behind.with_compared (spec.single self.now.grammar.now.depth) first
+            (lexemes tokens.now)) }
     {
-        let (operand, rest) = self.unary(tokens)?;
+        let (operator, rest) = one_of::<ComparisonOperator>(tokens)?;
+        let (right, rest) = self.operand(COMPARISON - 1, rest)?;
+        Ok((compared(self.grammar.alloc, first, operator, right)?, rest))
+    }
+
+    /// An operand, and those behind it of a level that makes one list of them.
+    fn with_joined(
+        &self,
+        level: u8,
+        first: Boxed<Expr>,
+        rest: &'a [Token],
+    ) -> Result<(Boxed<Expr>, &'a [Token]), Fault>
+        requires operands { Operands self.now.grammar.now.depth self.now.level
+            (G.pre self.now.operand) (G.post self.now.operand) }
+        requires some { 0 < level }
+        requires within { level ≤ self.now.level }
+        ensures { Parses result
+            (behind.joined (spec.single self.now.grammar.now.depth) level first
+            (lexemes rest.now)) }
+    {
+        let items = Joined {
+            operators: self,
+            level,
+        };
+        let (more, rest) = many(self.grammar.alloc, &items, rest)?;
+        Ok((joined(self.grammar.alloc, level, first, more)?, rest))
+    }
+
+    /// An operand, and what stands behind it at a level whose operator is next.
+    #[tactic(auto, unfolding(crate::specs::private::Behind::at))]
+    fn at_level(
+        &self,
+        level: u8,
+        first: Boxed<Expr>,
+        tokens: &'a [Token],
+    ) -> Result<(Boxed<Expr>, &'a [Token]), Fault>
+        requires operands { Operands self.now.grammar.now.depth self.now.level
+            (G.pre self.now.operand) (G.post self.now.operand) }
+        requires some { 0 < level }
+        requires within { level ≤ self.now.level }
+        requires stands { spec.stands level (lexemes tokens.now) ≡ true }
+        ensures { Parses result
+            (behind.at (spec.single self.now.grammar.now.depth) level first (lexemes tokens.now)) }
+    {
+        if level == SET {
+            self.with_chain::<SetOperator>(level, first, tokens)
+        } else if level == PRODUCT {
+            self.with_chain::<ProductOperator>(level, first, tokens)
+        } else if level == SUM {
+            self.with_chain::<Sign>(level, first, tokens)
+        } else if level == RANGE {
+            self.with_end(first, tokens)
+        } else if level == COMPARISON {
+            self.with_compared(first, tokens)
+        } else {
+            self.with_joined(level, first, tokens)
+        }
+    }
+
+    /// An operand, and what stands behind it: calls, and operators with their other operands.
+    fn behind(
+        &self,
+        operand: Boxed<Expr>,
+        tokens: &'a [Token],
+    ) -> Result<(Boxed<Expr>, &'a [Token]), Fault>
+        requires nests { Nests self.now.grammar.now.depth (F.pre self.now.grammar.now.single)
+            (F.post self.now.grammar.now.single) }
+        requires operands { Operands self.now.grammar.now.depth self.now.level
+            (G.pre self.now.operand) (G.post self.now.operand) }
+        requires bound { self.now.level ≤ 9 }
+        ensures { Parses result
+            (behind.up_to (spec.single self.now.grammar.now.depth) self.now.level operand
+            (lexemes tokens.now)) }
+    {
+        let (mut found, mut rest) = self.grammar.with_calls(operand, tokens)?;
+        let mut next = next_level(rest);
+        for tighter in 0..self.level {
+            if next != tighter + 1 {
+                continue;
+            }
+            let (all, after) = self.at_level(next, found, rest)?;
+            found = all;
+            rest = after;
+            next = next_level(rest);
+        }
+        Ok((found, rest))
+    }
+
+    /// Operands with operators between them. Most expressions are an operand alone: behind one no
+    /// operator is looked for where a token stands that ends it.
+    pub(crate) fn read(&self, tokens: &'a [Token]) -> Result<(Boxed<Expr>, &'a [Token]), Fault>
+        requires nests { Nests self.now.grammar.now.depth (F.pre self.now.grammar.now.single)
+            (F.post self.now.grammar.now.single) }
+        requires operands { Operands self.now.grammar.now.depth self.now.level
+            (G.pre self.now.operand) (G.post self.now.operand) }
+        requires bound { self.now.level ≤ 9 }
+        ensures { Parses result
+            (spec.level (spec.single self.now.grammar.now.depth) self.now.level
+            (lexemes tokens.now)) }
+    {
+        let (operand, rest) = self.grammar.unary(tokens)?;
         if ends_expression(rest) {
             return Ok((operand, rest));
         }
-        self.operators(operand, rest)
+        self.behind(operand, rest)
     }
 
-    /// The same, where a constructor comes first: it is read without a look for what else an
-    /// operand may begin with.
+    /// Operands with operators between them, where a constructor comes first: it is read without a
+    /// look for what else an operand may begin with.
     pub(crate) fn constructed(
         &self,
         tokens: &'a [Token],
     ) -> Result<(Boxed<Expr>, &'a [Token]), Fault>
-        requires nests { Nests self.now.depth (F.pre self.now.single) (F.post self.now.single) }
+        requires nests { Nests self.now.grammar.now.depth (F.pre self.now.grammar.now.single)
+            (F.post self.now.grammar.now.single) }
+        requires operands { Operands self.now.grammar.now.depth self.now.level
+            (G.pre self.now.operand) (G.post self.now.operand) }
+        requires bound { self.now.level ≤ 9 }
         requires begun { spec.begins_make (lexemes tokens.now) ≡ true }
         ensures { Parses result
-            (spec.disjunction (spec.single self.now.depth) (lexemes tokens.now)) }
+            (spec.level (spec.single self.now.grammar.now.depth) self.now.level
+            (lexemes tokens.now)) }
     {
-        let (node, rest) = self.make(tokens)?;
+        let (node, rest) = self.grammar.make(tokens)?;
         if ends_expression(rest) {
             return Ok((node, rest));
         }
-        let (path, rest) = self.path_from(node, rest)?;
-        let (operand, rest) = self.with_maps(path, rest)?;
-        self.operators(operand, rest)
+        let (path, rest) = self.grammar.path_from(node, rest)?;
+        let (operand, rest) = self.grammar.with_maps(path, rest)?;
+        self.behind(operand, rest)
     }
 }
 
@@ -459,7 +328,7 @@ impl<'a> Repeated<'a> for NextSign {
 
     ghost ready = { λ _. Unit {0} };
 
-    ghost test = { spec.begins g.signs };
+    ghost test = { λ _. spec.begins g.signs };
 
     ghost reader = { λ _. spec.one_of g.signs };
 
@@ -485,7 +354,7 @@ impl<
 
     ghost ready = { λ it. Nests it.0.now.depth (F.pre it.0.now.single) (F.post it.0.now.single) };
 
-    ghost test = { spec.is (symbol_lex s.Bang) };
+    ghost test = { λ _. spec.is (symbol_lex s.Bang) };
 
     ghost reader = { λ it. spec.map_item (spec.single it.0.now.depth) };
 
@@ -514,7 +383,7 @@ impl<
 
     ghost ready = { λ it. Nests it.0.now.depth (F.pre it.0.now.single) (F.post it.0.now.single) };
 
-    ghost test = { spec.is (symbol_lex s.Arrow) };
+    ghost test = { λ _. spec.is (symbol_lex s.Arrow) };
 
     ghost reader = { λ it. spec.arrow_item (spec.single it.0.now.depth) };
 
@@ -529,211 +398,75 @@ impl<
     }
 }
 
-/// An operand of an intersection or difference.
+/// An operator of a level and the operand behind it.
 #[derive(Drop)]
-struct SetItem<'g, F>(&'g Grammar<F>);
+struct Pair<'o, 'g, F, G, T> {
+    operators: &'o Operators<'g, F, G>,
+    level: u8,
+    operator: PhantomData<T>,
+}
 
 impl<
     'a,
+    'o,
     'g,
     F: Fn(Global, usize, &'a [Token]) -> Result<(Boxed<Expr>, &'a [Token]), Fault>,
-> Repeated<'a> for SetItem<'g, F> {
-    type Value = (SetOperator, Expr);
+    G: Fn(Global, usize, u8, &'a [Token]) -> Result<(Boxed<Expr>, &'a [Token]), Fault>,
+    T: Listed + Drop,
+> Repeated<'a> for Pair<'o, 'g, F, G, T> {
+    type Value = (T, Expr);
 
-    ghost ready = { λ it. Nests it.0.now.depth (F.pre it.0.now.single) (F.post it.0.now.single) };
+    ghost ready = { λ it. OperandReady it.level it.operators.now.grammar.now.depth
+        it.operators.now.level (G.pre it.operators.now.operand) (G.post it.operators.now.operand) };
 
-    ghost test = { spec.begins g.set_operators };
+    ghost test = { λ it. spec.stands it.level };
 
-    ghost reader = { λ it. spec.set_item (spec.single it.0.now.depth) };
+    ghost reader = { λ it. spec.both (spec.one_of T.table)
+        (spec.level (spec.single it.operators.now.grammar.now.depth) (it.level - 1)) };
 
     fn follows(&self, tokens: &[Token]) -> bool {
-        begins::<SetOperator>(tokens)
+        next_level(tokens) == self.level
     }
 
-    #[tactic(auto, unfolding(crate::specs::private::Reading::set_item))]
-    fn next(&self, tokens: &'a [Token]) -> Result<((SetOperator, Expr), &'a [Token]), Fault> {
-        let (operator, rest) = one_of::<SetOperator>(tokens)?;
-        let (operand, rest) = self.0.arrow(rest)?;
+    fn next(&self, tokens: &'a [Token]) -> Result<((T, Expr), &'a [Token]), Fault> {
+        let (operator, rest) = one_of::<T>(tokens)?;
+        let (operand, rest) = self.operators.operand(self.level - 1, rest)?;
         Ok(((operator, operand.into_inner()), rest))
     }
 }
 
-/// An operand of a union.
+/// An operand of a level that makes one list of them.
 #[derive(Drop)]
-struct UnionItem<'g, F>(&'g Grammar<F>);
+struct Joined<'o, 'g, F, G> {
+    operators: &'o Operators<'g, F, G>,
+    level: u8,
+}
 
 impl<
     'a,
+    'o,
     'g,
     F: Fn(Global, usize, &'a [Token]) -> Result<(Boxed<Expr>, &'a [Token]), Fault>,
-> Repeated<'a> for UnionItem<'g, F> {
+    G: Fn(Global, usize, u8, &'a [Token]) -> Result<(Boxed<Expr>, &'a [Token]), Fault>,
+> Repeated<'a> for Joined<'o, 'g, F, G> {
     type Value = Expr;
 
-    ghost ready = { λ it. Nests it.0.now.depth (F.pre it.0.now.single) (F.post it.0.now.single) };
+    ghost ready = { λ it. OperandReady it.level it.operators.now.grammar.now.depth
+        it.operators.now.level (G.pre it.operators.now.operand) (G.post it.operators.now.operand) };
 
-    ghost test = { spec.begins_union };
+    ghost test = { λ it. spec.stands it.level };
 
-    ghost reader = { λ it. spec.union_item (spec.single it.0.now.depth) };
+    ghost reader = { λ it. behind.joined_item
+        (spec.single it.operators.now.grammar.now.depth) it.level };
 
     fn follows(&self, tokens: &[Token]) -> bool {
-        begins_union(tokens)
+        next_level(tokens) == self.level
     }
 
-    #[tactic(auto, unfolding(crate::specs::private::Reading::union_item))]
+    #[tactic(auto, unfolding(crate::specs::private::Behind::joined_item))]
     fn next(&self, tokens: &'a [Token]) -> Result<(Expr, &'a [Token]), Fault> {
-        if is_word("union", tokens) {
-            let rest = expect_word("union", tokens)?;
-            let (operand, rest) = self.0.intersection(rest)?;
-            Ok((operand.into_inner(), rest))
-        } else {
-            let rest = expect_symbol(Symbol::Bar, tokens)?;
-            let (operand, rest) = self.0.intersection(rest)?;
-            Ok((operand.into_inner(), rest))
-        }
-    }
-}
-
-/// A factor and its operator.
-#[derive(Drop)]
-struct ProductItem<'g, F>(&'g Grammar<F>);
-
-impl<
-    'a,
-    'g,
-    F: Fn(Global, usize, &'a [Token]) -> Result<(Boxed<Expr>, &'a [Token]), Fault>,
-> Repeated<'a> for ProductItem<'g, F> {
-    type Value = (ProductOperator, Expr);
-
-    ghost ready = { λ it. Nests it.0.now.depth (F.pre it.0.now.single) (F.post it.0.now.single) };
-
-    ghost test = { spec.begins g.product_operators };
-
-    ghost reader = { λ it. spec.product_item (spec.single it.0.now.depth) };
-
-    fn follows(&self, tokens: &[Token]) -> bool {
-        begins::<ProductOperator>(tokens)
-    }
-
-    #[tactic(auto, unfolding(crate::specs::private::Reading::product_item))]
-    fn next(&self, tokens: &'a [Token]) -> Result<((ProductOperator, Expr), &'a [Token]), Fault> {
-        let (operator, rest) = one_of::<ProductOperator>(tokens)?;
-        let (operand, rest) = self.0.unions(rest)?;
-        Ok(((operator, operand.into_inner()), rest))
-    }
-}
-
-/// A term and its sign.
-#[derive(Drop)]
-struct SumItem<'g, F>(&'g Grammar<F>);
-
-impl<
-    'a,
-    'g,
-    F: Fn(Global, usize, &'a [Token]) -> Result<(Boxed<Expr>, &'a [Token]), Fault>,
-> Repeated<'a> for SumItem<'g, F> {
-    type Value = (Sign, Expr);
-
-    ghost ready = { λ it. Nests it.0.now.depth (F.pre it.0.now.single) (F.post it.0.now.single) };
-
-    ghost test = { spec.begins g.signs };
-
-    ghost reader = { λ it. spec.sum_item (spec.single it.0.now.depth) };
-
-    fn follows(&self, tokens: &[Token]) -> bool {
-        begins::<Sign>(tokens)
-    }
-
-    #[tactic(auto, unfolding(crate::specs::private::Reading::sum_item))]
-    fn next(&self, tokens: &'a [Token]) -> Result<((Sign, Expr), &'a [Token]), Fault> {
-        let (operator, rest) = one_of::<Sign>(tokens)?;
-        let (operand, rest) = self.0.product(rest)?;
-        Ok(((operator, operand.into_inner()), rest))
-    }
-}
-
-/// An operand of a concatenation.
-#[derive(Drop)]
-struct ConcatItem<'g, F>(&'g Grammar<F>);
-
-impl<
-    'a,
-    'g,
-    F: Fn(Global, usize, &'a [Token]) -> Result<(Boxed<Expr>, &'a [Token]), Fault>,
-> Repeated<'a> for ConcatItem<'g, F> {
-    type Value = Expr;
-
-    ghost ready = { λ it. Nests it.0.now.depth (F.pre it.0.now.single) (F.post it.0.now.single) };
-
-    ghost test = { spec.is (symbol_lex s.DoubleBar) };
-
-    ghost reader = { λ it. spec.concat_item (spec.single it.0.now.depth) };
-
-    fn follows(&self, tokens: &[Token]) -> bool {
-        is_symbol(Symbol::DoubleBar, tokens)
-    }
-
-    #[tactic(auto, unfolding(crate::specs::private::Reading::concat_item))]
-    fn next(&self, tokens: &'a [Token]) -> Result<(Expr, &'a [Token]), Fault> {
-        let rest = expect_symbol(Symbol::DoubleBar, tokens)?;
-        let (operand, rest) = self.0.range(rest)?;
-        Ok((operand.into_inner(), rest))
-    }
-}
-
-/// An operand of a conjunction.
-#[derive(Drop)]
-struct AndItem<'g, F>(&'g Grammar<F>);
-
-impl<
-    'a,
-    'g,
-    F: Fn(Global, usize, &'a [Token]) -> Result<(Boxed<Expr>, &'a [Token]), Fault>,
-> Repeated<'a> for AndItem<'g, F> {
-    type Value = Expr;
-
-    ghost ready = { λ it. Nests it.0.now.depth (F.pre it.0.now.single) (F.post it.0.now.single) };
-
-    ghost test = { spec.is (look.word "and") };
-
-    ghost reader = { λ it. spec.and_item (spec.single it.0.now.depth) };
-
-    fn follows(&self, tokens: &[Token]) -> bool {
-        is_word("and", tokens)
-    }
-
-    #[tactic(auto, unfolding(crate::specs::private::Reading::and_item))]
-    fn next(&self, tokens: &'a [Token]) -> Result<(Expr, &'a [Token]), Fault> {
-        let rest = expect_word("and", tokens)?;
-        let (operand, rest) = self.0.comparison(rest)?;
-        Ok((operand.into_inner(), rest))
-    }
-}
-
-/// An operand of a disjunction.
-#[derive(Drop)]
-struct OrItem<'g, F>(&'g Grammar<F>);
-
-impl<
-    'a,
-    'g,
-    F: Fn(Global, usize, &'a [Token]) -> Result<(Boxed<Expr>, &'a [Token]), Fault>,
-> Repeated<'a> for OrItem<'g, F> {
-    type Value = Expr;
-
-    ghost ready = { λ it. Nests it.0.now.depth (F.pre it.0.now.single) (F.post it.0.now.single) };
-
-    ghost test = { spec.is (look.word "or") };
-
-    ghost reader = { λ it. spec.or_item (spec.single it.0.now.depth) };
-
-    fn follows(&self, tokens: &[Token]) -> bool {
-        is_word("or", tokens)
-    }
-
-    #[tactic(auto, unfolding(crate::specs::private::Reading::or_item))]
-    fn next(&self, tokens: &'a [Token]) -> Result<(Expr, &'a [Token]), Fault> {
-        let rest = expect_word("or", tokens)?;
-        let (operand, rest) = self.0.conjunction(rest)?;
+        let rest = joint(self.level, tokens)?;
+        let (operand, rest) = self.operators.operand(self.level - 1, rest)?;
         Ok((operand.into_inner(), rest))
     }
 }

@@ -178,7 +178,7 @@ impl<
 
     ghost ready = { λ it. Nests it.0.now.depth (F.pre it.0.now.single) (F.post it.0.now.single) };
 
-    ghost test = { spec.is (symbol_lex s.OpenBracket) };
+    ghost test = { λ _. spec.is (symbol_lex s.OpenBracket) };
 
     ghost reader = { λ it. spec.predicate (spec.single it.0.now.depth) };
 
@@ -208,7 +208,7 @@ impl<
 
     ghost ready = { λ it. Nests it.0.now.depth (F.pre it.0.now.single) (F.post it.0.now.single) };
 
-    ghost test = { spec.begins g.separators };
+    ghost test = { λ _. spec.begins g.separators };
 
     ghost reader = { λ it. spec.next_step (spec.single it.0.now.depth) };
 

@@ -1,10 +1,14 @@
 //! What phrases stand for.
-ghost use Rattle.std.specs.Prelude.{Some};
+ghost use Rattle.std.specs.Prelude.{◌≡◌, List, Some};
+ghost use Rattle.xq_expressions.specs.declared.expressions.Expr.{Expr as Expr_};
 ghost use Rattle.xq_expressions.specs.declared.expressions.Expr.TheVariants as e;
 ghost use Rattle.xq_parser.specs.Grammar as g;
+ghost use Rattle.xq_parser.specs.private.Behind as behind;
 ghost use Rattle.xq_parser.specs.private.Parses.{ParsesAs};
 
+use crate::levels::{AND, CONCAT, UNION};
 use crate::lists::listed;
+use crate::words::Listed;
 use sqlite_items::{Boxed, Items};
 use std::alloc::Global;
 use xq_atoms::Fault;
@@ -28,109 +32,83 @@ pub(crate) fn sequence(
     Ok(Boxed::new(alloc, Expr::Sequence(all))?)
 }
 
-/// An operand, or two and more with `or` between them.
-pub(crate) fn disjunction(
+/// An operand, or the list that a level makes of two and more.
+#[tactic(auto, unfolding(crate::specs::private::Behind::of_list))]
+pub(crate) fn joined(
     alloc: Global,
+    level: u8,
     first: Boxed<Expr>,
     more: Items<Expr>,
 ) -> Result<Boxed<Expr>, Fault>
-    ensures { ParsesAs (λ x. x) result (Some (g.several e.Or (first, more))) }
+    ensures { ParsesAs (λ x. x) result (Some (g.several (behind.of_list level) (first, more))) }
 {
     if more.len() == 0 {
         return Ok(first);
     }
     let all = listed(alloc, first.into_inner(), more)?;
-    Ok(Boxed::new(alloc, Expr::Or(all))?)
-}
-
-/// An operand, or two and more with `and` between them.
-pub(crate) fn conjunction(
-    alloc: Global,
-    first: Boxed<Expr>,
-    more: Items<Expr>,
-) -> Result<Boxed<Expr>, Fault>
-    ensures { ParsesAs (λ x. x) result (Some (g.several e.And (first, more))) }
-{
-    if more.len() == 0 {
-        return Ok(first);
-    }
-    let all = listed(alloc, first.into_inner(), more)?;
-    Ok(Boxed::new(alloc, Expr::And(all))?)
-}
-
-/// An operand, or two and more with `||` between them.
-pub(crate) fn concatenation(
-    alloc: Global,
-    first: Boxed<Expr>,
-    more: Items<Expr>,
-) -> Result<Boxed<Expr>, Fault>
-    ensures { ParsesAs (λ x. x) result (Some (g.several e.Concat (first, more))) }
-{
-    if more.len() == 0 {
-        return Ok(first);
-    }
-    let all = listed(alloc, first.into_inner(), more)?;
-    Ok(Boxed::new(alloc, Expr::Concat(all))?)
-}
-
-/// An operand, or the union of two and more.
-pub(crate) fn united(
-    alloc: Global,
-    first: Boxed<Expr>,
-    more: Items<Expr>,
-) -> Result<Boxed<Expr>, Fault>
-    ensures { ParsesAs (λ x. x) result (Some (g.several e.Union (first, more))) }
-{
-    if more.len() == 0 {
-        return Ok(first);
-    }
-    let all = listed(alloc, first.into_inner(), more)?;
-    Ok(Boxed::new(alloc, Expr::Union(all))?)
-}
-
-/// An operand, or a sum.
-pub(crate) fn sum(
-    alloc: Global,
-    first: Boxed<Expr>,
-    more: Items<(Sign, Expr)>,
-) -> Result<Boxed<Expr>, Fault>
-    ensures { ParsesAs (λ x. x) result (Some (g.chain e.Sum (first, more))) }
-{
-    if more.len() == 0 {
-        Ok(first)
+    let value = if level == UNION {
+        Expr::Union(all)
+    } else if level == CONCAT {
+        Expr::Concat(all)
+    } else if level == AND {
+        Expr::And(all)
     } else {
-        Ok(Boxed::new(alloc, Expr::Sum(first, more))?)
+        Expr::Or(all)
+    };
+    Ok(Boxed::new(alloc, value)?)
+}
+
+/// An operator whose level makes a chain of operands, each with the operator before it.
+pub(crate) trait Chains: Listed {
+    ghost chain: { Expr_ → List (Self × Expr_) → Expr_ };
+
+    /// The chain of an operand and those behind it.
+    fn chain(first: Boxed<Expr>, more: Items<(Self, Expr)>) -> Expr
+        ensures { result ≡ chain first more };
+}
+
+impl Chains for SetOperator {
+    ghost chain = { e.SetOperation };
+
+    fn chain(first: Boxed<Expr>, more: Items<(SetOperator, Expr)>) -> Expr
+        ensures { result ≡ e.SetOperation first more }
+    {
+        Expr::SetOperation(first, more)
     }
 }
 
-/// An operand, or a product.
-pub(crate) fn product(
-    alloc: Global,
-    first: Boxed<Expr>,
-    more: Items<(ProductOperator, Expr)>,
-) -> Result<Boxed<Expr>, Fault>
-    ensures { ParsesAs (λ x. x) result (Some (g.chain e.Product (first, more))) }
-{
-    if more.len() == 0 {
-        Ok(first)
-    } else {
-        Ok(Boxed::new(alloc, Expr::Product(first, more))?)
+impl Chains for ProductOperator {
+    ghost chain = { e.Product };
+
+    fn chain(first: Boxed<Expr>, more: Items<(ProductOperator, Expr)>) -> Expr
+        ensures { result ≡ e.Product first more }
+    {
+        Expr::Product(first, more)
     }
 }
 
-/// An operand, or intersections and differences.
-pub(crate) fn set_operation(
+impl Chains for Sign {
+    ghost chain = { e.Sum };
+
+    fn chain(first: Boxed<Expr>, more: Items<(Sign, Expr)>) -> Expr
+        ensures { result ≡ e.Sum first more }
+    {
+        Expr::Sum(first, more)
+    }
+}
+
+/// An operand, or a chain of two and more.
+pub(crate) fn chained<T: Chains + Drop>(
     alloc: Global,
     first: Boxed<Expr>,
-    more: Items<(SetOperator, Expr)>,
+    more: Items<(T, Expr)>,
 ) -> Result<Boxed<Expr>, Fault>
-    ensures { ParsesAs (λ x. x) result (Some (g.chain e.SetOperation (first, more))) }
+    ensures { ParsesAs (λ x. x) result (Some (g.chain T.chain (first, more))) }
 {
     if more.len() == 0 {
-        Ok(first)
-    } else {
-        Ok(Boxed::new(alloc, Expr::SetOperation(first, more))?)
+        return Ok(first);
     }
+    Ok(Boxed::new(alloc, T::chain(first, more))?)
 }
 
 /// An operand, or the calls that it is handed on to.
@@ -163,34 +141,27 @@ pub(crate) fn simple_map(
     }
 }
 
-/// An operand, or a comparison of two.
+/// A comparison of two operands.
 pub(crate) fn compared(
     alloc: Global,
     left: Boxed<Expr>,
-    right: Option<(ComparisonOperator, Boxed<Expr>)>,
+    operator: ComparisonOperator,
+    right: Boxed<Expr>,
 ) -> Result<Boxed<Expr>, Fault>
-    ensures { ParsesAs (λ x. x) result (Some (g.compared (left, right))) }
+    ensures { ParsesAs (λ x. x) result (Some (g.compared (left, Some (operator, right)))) }
 {
-    match right {
-        None => Ok(left),
-        Some((operator, right)) => {
-            Ok(Boxed::new(alloc, Expr::Comparison(left, operator, right))?)
-        }
-    }
+    Ok(Boxed::new(alloc, Expr::Comparison(left, operator, right))?)
 }
 
-/// An operand, or the range between two.
+/// The range between two operands.
 pub(crate) fn ranged(
     alloc: Global,
     first: Boxed<Expr>,
-    last: Option<Boxed<Expr>>,
+    last: Boxed<Expr>,
 ) -> Result<Boxed<Expr>, Fault>
-    ensures { ParsesAs (λ x. x) result (Some (g.ranged (first, last))) }
+    ensures { ParsesAs (λ x. x) result (Some (g.ranged (first, Some last))) }
 {
-    match last {
-        None => Ok(first),
-        Some(last) => { Ok(Boxed::new(alloc, Expr::Range(first, last))?) }
-    }
+    Ok(Boxed::new(alloc, Expr::Range(first, last))?)
 }
 
 /// An operand with its signs, if there are any.

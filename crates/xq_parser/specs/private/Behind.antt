@@ -1,12 +1,24 @@
 -- What stands behind an operand that was read: the tails of the lines of operators.
+use Rattle.std.specs.Prelude.{ℕ, zero, suc, ◌==◌, ◌-◌, List, if◌then◌else◌}
 use Rattle.xq_lexer.specs.Lexeme.{symbol}
 use Rattle.xq_lexer.specs.declared.tokens.Symbol.TheVariants as s
 use Rattle.xq_expressions.specs.declared.expressions.Expr.{Expr}
 use Rattle.xq_expressions.specs.declared.expressions.Expr.TheVariants as e
-use Rattle.xq_parser.specs.Look.{word}
+use Rattle.xq_parser.specs.Look.{Table, word}
 use Rattle.xq_parser.specs.Grammar as g
 use Rattle.xq_parser.specs.private.Reading as r
-use Rattle.xq_parser.specs.private.Reading.{Parser, and_then, pure, both, mapped, many, maybe, is, begins}
+use Rattle.xq_parser.specs.private.Reading.{Parser, and_then, pure, both, mapped, many, maybe, is, begins, expect, stands}
+
+-- the token between the operands of a level that makes one list of them
+unfoldable pub joint : ℕ → Parser (Unit {0})
+joint n =
+    if n == 2 then r.union_sign else (if n == 6 then expect (symbol s.DoubleBar)
+    else (if n == 8 then expect (word "and") else expect (word "or")))
+
+-- what the list is
+unfoldable pub of_list : ℕ → List Expr → Expr
+of_list n =
+    if n == 2 then e.Union else (if n == 6 then e.Concat else (if n == 8 then e.And else e.Or))
 
 module _ (single : Parser Expr) where
   -- each line of operators, behind its first operand
@@ -17,64 +29,39 @@ module _ (single : Parser Expr) where
   with_calls x = mapped (g.chain e.Arrow)
       (both (pure x) (many (is (symbol s.Arrow)) (r.arrow_item single)))
 
-  abbrev pub with_sets : Expr → Parser Expr
-  with_sets x = mapped (g.chain e.SetOperation)
-      (both (pure x) (many (begins g.set_operators) (r.set_item single)))
-
-  abbrev pub with_unions : Expr → Parser Expr
-  with_unions x = mapped (g.several e.Union) (both (pure x) (many r.begins_union (r.union_item single)))
-
-  abbrev pub with_factors : Expr → Parser Expr
-  with_factors x = mapped (g.chain e.Product)
-      (both (pure x) (many (begins g.product_operators) (r.product_item single)))
-
-  abbrev pub with_terms : Expr → Parser Expr
-  with_terms x = mapped (g.chain e.Sum) (both (pure x) (many (begins g.signs) (r.sum_item single)))
-
   abbrev pub with_end : Expr → Parser Expr
-  with_end x = mapped g.ranged (both (pure x) (maybe (is (word "to")) (r.range_item single)))
-
-  abbrev pub with_texts : Expr → Parser Expr
-  with_texts x = mapped (g.several e.Concat)
-      (both (pure x) (many (is (symbol s.DoubleBar)) (r.concat_item single)))
+  with_end x = mapped g.ranged
+      (both (pure x) (maybe (stands 5) (r.after (word "to") (r.level single 4))))
 
   abbrev pub with_compared : Expr → Parser Expr
   with_compared x = mapped g.compared
-      (both (pure x) (maybe (begins g.comparisons) (r.comparison_item single)))
+      (both (pure x) (maybe (stands 7) (both (r.one_of g.comparisons) (r.level single 6))))
 
-  abbrev pub with_ands : Expr → Parser Expr
-  with_ands x = mapped (g.several e.And) (both (pure x) (many (is (word "and")) (r.and_item single)))
+  -- a level that makes a chain of its operands, each with its operator
+  abbrev pub chained : {A : Type 0} → ℕ → Table A → (Expr → List (A × Expr) → Expr) → Expr
+      → Parser Expr
+  chained n table chain x = mapped (g.chain chain)
+      (both (pure x) (many (stands n) (both (r.one_of table) (r.level single (n - 1)))))
 
-  abbrev pub with_ors : Expr → Parser Expr
-  with_ors x = mapped (g.several e.Or) (both (pure x) (many (is (word "or")) (r.or_item single)))
+  -- an operand of a list after the token of its level
+  unfoldable pub joined_item : ℕ → Parser Expr
+  joined_item n ts = and_then (joint n ts) (λ _ us. r.level single (n - 1) us)
 
-  -- all lines up to one, behind the first operand of them all
-  abbrev pub up_to_sets : Expr → Parser Expr
-  up_to_sets x ts = and_then (with_calls x ts) with_sets
+  abbrev pub joined : ℕ → Expr → Parser Expr
+  joined n x = mapped (g.several (of_list n)) (both (pure x) (many (stands n) (joined_item n)))
 
-  abbrev pub up_to_unions : Expr → Parser Expr
-  up_to_unions x ts = and_then (up_to_sets x ts) with_unions
+  -- the line of a level
+  unfoldable pub at : ℕ → Expr → Parser Expr
+  at n =
+      if n == 1 then chained n g.set_operators e.SetOperation
+      else (if n == 3 then chained n g.product_operators e.Product
+      else (if n == 4 then chained n g.signs e.Sum
+      else (if n == 5 then with_end else (if n == 7 then with_compared else joined n))))
 
-  unfoldable pub up_to_factors : Expr → Parser Expr
-  up_to_factors x ts = and_then (up_to_unions x ts) with_factors
-
-  abbrev pub up_to_terms : Expr → Parser Expr
-  up_to_terms x ts = and_then (up_to_factors x ts) with_terms
-
-  abbrev pub up_to_end : Expr → Parser Expr
-  up_to_end x ts = and_then (up_to_terms x ts) with_end
-
-  abbrev pub up_to_texts : Expr → Parser Expr
-  up_to_texts x ts = and_then (up_to_end x ts) with_texts
-
-  unfoldable pub up_to_compared : Expr → Parser Expr
-  up_to_compared x ts = and_then (up_to_texts x ts) with_compared
-
-  abbrev pub up_to_ands : Expr → Parser Expr
-  up_to_ands x ts = and_then (up_to_compared x ts) with_ands
-
-  unfoldable pub operators : Expr → Parser Expr
-  operators x ts = and_then (up_to_ands x ts) with_ors
+  -- all lines up to that of a level, behind the first operand of them all
+  unfoldable pub up_to : ℕ → Expr → Parser Expr
+  up_to zero x ts = with_calls x ts
+  up_to (suc n) x ts = and_then (up_to n x ts) (at (suc n))
 
   -- a path whose first step begins with what was read
   unfoldable pub path_from : Expr → Parser Expr

@@ -1,5 +1,5 @@
 -- What a private function that parses ensures: what the reader gives, unless memory runs out.
-use Rattle.std.specs.Prelude.{◌≡◌, ℕ, List, Option, Some, None, Result, Ok, Err}
+use Rattle.std.specs.Prelude.{◌≡◌, ◌<◌, ◌≤◌, ℕ, List, Option, Some, None, Result, Ok, Err}
 use Rattle.std.specs.declared.alloc.Global.{Global}
 use denote.Ref.{Bor}
 use Rattle.xq_atoms.specs.declared.refusals.Fault.{Fault}
@@ -10,7 +10,7 @@ use Rattle.xq_lexer.specs.declared.tokens.Token.{Token}
 use Rattle.xq_lexer.specs.Lexeme.{lexemes}
 use Rattle.xq_expressions.specs.declared.expressions.Expr.{Expr}
 use Rattle.xq_parser.specs.Look.{Tokens}
-use Rattle.xq_parser.specs.private.Reading.{Outcome, single}
+use Rattle.xq_parser.specs.private.Reading.{Outcome, single, level as level_of}
 
 abbrev pub ParsesNot : {Y : Type 0} → Fault → Option Y → Type 0
 ParsesNot (OfWant Memory) read = Unit {0}
@@ -37,3 +37,22 @@ pub record Nests (depth : ℕ) (pre : Global → ℕ → Bor (List Token) → Ty
   pub reads : (alloc : Global) (tokens : Bor (List Token))
       (r : Result (Expr × Bor (List Token)) Fault) → post alloc depth tokens r
       → Parses r (single depth (lexemes tokens.now))
+
+-- a function value that reads operands with operators of levels below one
+pub record Operands (depth loosest : ℕ) (pre : Global → ℕ → ℕ → Bor (List Token) → Type 0)
+    (post : Global → ℕ → ℕ → Bor (List Token) → Result (Expr × Bor (List Token)) Fault
+    → Type 0) : Type 0 where
+  pub callable : (alloc : Global) (level : ℕ) (tokens : Bor (List Token)) → level < loosest
+      → pre alloc depth level tokens
+  pub reads : (alloc : Global) (level : ℕ) (tokens : Bor (List Token))
+      (r : Result (Expr × Bor (List Token)) Fault) → post alloc depth level tokens r
+      → Parses r (level_of (single depth) level (lexemes tokens.now))
+
+-- the operands of a level are read so
+pub record OperandReady (level depth loosest : ℕ)
+    (pre : Global → ℕ → ℕ → Bor (List Token) → Type 0)
+    (post : Global → ℕ → ℕ → Bor (List Token) → Result (Expr × Bor (List Token)) Fault
+    → Type 0) : Type 0 where
+  pub operands : Operands depth loosest pre post
+  pub some : 0 < level
+  pub within : level ≤ loosest

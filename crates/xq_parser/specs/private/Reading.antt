@@ -1,8 +1,9 @@
 -- The functional reader, which the parser's private functions follow: reading an expression, line
 -- by line, with one token of lookahead and up to three at a name.
-use Rattle.std.specs.Prelude.{ℕ, zero, suc, ℤ, List, [], ◌∷◌, length, Bool, true, false, not, ◌||◌, ◌&&◌, if◌then◌else◌, Option, Some, None, codes}
+use Rattle.std.specs.Prelude.{ℕ, zero, suc, ℤ, List, [], ◌∷◌, length, Bool, true, false, not, ◌||◌, ◌&&◌, ◌==◌, ◌-◌, if◌then◌else◌, Option, Some, None, codes}
 use Rattle.std.specs.Str.{bytes_eq}
 use Rattle.xq_lexer.specs.Lexeme.{Lex, name, prefixed, int, dec, str, symbol}
+use Rattle.xq_lexer.specs.declared.tokens.Symbol.{Symbol}
 use Rattle.xq_lexer.specs.declared.tokens.Symbol.TheVariants as s
 use Rattle.xq_expressions.specs.declared.names.QName.{QName}
 use Rattle.xq_expressions.specs.declared.operators.ComparisonOperator.{ComparisonOperator}
@@ -369,10 +370,56 @@ axis_step =
     (choose (is (symbol s.DoubleDot)) (one_of ((symbol s.DoubleDot, along.Parent) ∷ []))
     (mapped along.Abbreviated node_test)))
 
--- ---- words between phrases
+-- ---- the table of operators between operands
 
-unfoldable pub begins_union : Tokens → Bool
-begins_union ts = is (word "union") ts || is (symbol s.Bar) ts
+-- the words, and how loosely they bind
+abbrev pub word_levels : Table ℕ
+word_levels =
+    (word "intersect", 1) ∷ (word "except", 1) ∷ (word "union", 2) ∷ (word "div", 3)
+    ∷ (word "idiv", 3) ∷ (word "mod", 3) ∷ (word "to", 5) ∷ (word "eq", 7) ∷ (word "ne", 7)
+    ∷ (word "lt", 7) ∷ (word "le", 7) ∷ (word "gt", 7) ∷ (word "ge", 7) ∷ (word "is", 7)
+    ∷ (word "and", 8) ∷ (word "or", 9) ∷ []
+
+-- the symbols
+abbrev pub symbol_level : Symbol → ℕ
+symbol_level s.Bar = 2
+symbol_level s.Star = 3
+symbol_level s.Plus = 4
+symbol_level s.Minus = 4
+symbol_level s.DoubleBar = 6
+symbol_level s.Equal = 7
+symbol_level s.NotEqual = 7
+symbol_level s.Less = 7
+symbol_level s.LessEqual = 7
+symbol_level s.Greater = 7
+symbol_level s.GreaterEqual = 7
+symbol_level s.Precedes = 7
+symbol_level s.Follows = 7
+symbol_level _ = 0
+
+abbrev pub or_zero : Option ℕ → ℕ
+or_zero (Some level) = level
+or_zero None = 0
+
+-- the level of a token, or 0 where it is no operator between operands
+unfoldable pub level_of : Lex → ℕ
+level_of (name n) = or_zero (lookup word_levels (name n))
+level_of (symbol c) = symbol_level c
+level_of _ = 0
+
+unfoldable pub next_level : Tokens → ℕ
+next_level [] = 0
+next_level (t ∷ ts) = level_of t
+
+-- the next token is an operator of the level
+abbrev pub stands : ℕ → Tokens → Bool
+stands level ts = next_level ts == level
+
+-- the signs of a union
+unfoldable pub union_sign : Parser (Unit {0})
+union_sign = choose (is (word "union")) (expect (word "union")) (expect (symbol s.Bar))
+
+-- ---- words between phrases
 
 unfoldable pub empty_words : Parser EmptyOrder
 empty_words = choose (is (word "empty")) (after (word "empty") (one_of g.empty_orders))
@@ -447,55 +494,63 @@ module _ (single : Parser Expr) where
   set_item = both (one_of g.set_operators) arrow
 
   unfoldable pub inter : Parser Expr
-  inter = mapped (g.chain e.SetOperation) (both arrow (many (begins g.set_operators) set_item))
+  inter = mapped (g.chain e.SetOperation) (both arrow (many (stands 1) set_item))
 
   unfoldable pub union_item : Parser Expr
-  union_item = choose (is (word "union")) (after (word "union") inter) (after (symbol s.Bar) inter)
+  union_item ts = and_then (union_sign ts) (λ _ us. inter us)
 
   unfoldable pub union : Parser Expr
-  union = mapped (g.several e.Union) (both inter (many begins_union union_item))
+  union = mapped (g.several e.Union) (both inter (many (stands 2) union_item))
 
   unfoldable pub product_item : Parser (ProductOperator × Expr)
   product_item = both (one_of g.product_operators) union
 
   unfoldable pub product : Parser Expr
-  product = mapped (g.chain e.Product) (both union (many (begins g.product_operators) product_item))
+  product = mapped (g.chain e.Product) (both union (many (stands 3) product_item))
 
   unfoldable pub sum_item : Parser (Sign × Expr)
   sum_item = both (one_of g.signs) product
 
   unfoldable pub sum : Parser Expr
-  sum = mapped (g.chain e.Sum) (both product (many (begins g.signs) sum_item))
+  sum = mapped (g.chain e.Sum) (both product (many (stands 4) sum_item))
 
   unfoldable pub range_item : Parser Expr
   range_item = after (word "to") sum
 
   unfoldable pub range : Parser Expr
-  range = mapped g.ranged (both sum (maybe (is (word "to")) range_item))
+  range = mapped g.ranged (both sum (maybe (stands 5) range_item))
 
   unfoldable pub concat_item : Parser Expr
   concat_item = after (symbol s.DoubleBar) range
 
   unfoldable pub concat : Parser Expr
-  concat = mapped (g.several e.Concat) (both range (many (is (symbol s.DoubleBar)) concat_item))
+  concat = mapped (g.several e.Concat) (both range (many (stands 6) concat_item))
 
   unfoldable pub comparison_item : Parser (ComparisonOperator × Expr)
   comparison_item = both (one_of g.comparisons) concat
 
   unfoldable pub comparison : Parser Expr
-  comparison = mapped g.compared (both concat (maybe (begins g.comparisons) comparison_item))
+  comparison = mapped g.compared (both concat (maybe (stands 7) comparison_item))
 
   unfoldable pub and_item : Parser Expr
   and_item = after (word "and") comparison
 
   unfoldable pub conjunction : Parser Expr
-  conjunction = mapped (g.several e.And) (both comparison (many (is (word "and")) and_item))
+  conjunction = mapped (g.several e.And) (both comparison (many (stands 8) and_item))
 
   unfoldable pub or_item : Parser Expr
   or_item = after (word "or") conjunction
 
   unfoldable pub disjunction : Parser Expr
-  disjunction = mapped (g.several e.Or) (both conjunction (many (is (word "or")) or_item))
+  disjunction = mapped (g.several e.Or) (both conjunction (many (stands 9) or_item))
+
+  -- the lines of operators between operands, each by the loosest level in it
+  unfoldable pub level : ℕ → Parser Expr
+  level n =
+      if n == 0 then arrow else (if n == 1 then inter else (if n == 2 then union
+      else (if n == 3 then product else (if n == 4 then sum else (if n == 5 then range
+      else (if n == 6 then concat else (if n == 7 then comparison
+      else (if n == 8 then conjunction else disjunction))))))))
 
   unfoldable pub tested : Parser Expr
   tested = after (symbol s.OpenParenthesis) (before (whole single) (symbol s.CloseParenthesis))
