@@ -5,6 +5,7 @@
 #![tactic(auto)]
 
 mod adopting;
+mod databases;
 mod disk_stores;
 mod files;
 mod memory_stores;
