@@ -50,7 +50,7 @@ module _ {D : Type 0} {g : Ghosts D} (store : Held (FileStore D g)) (sound : IsD
   alone : (image : Image) → HoldsAlone image (file_state store).committed.trees → OpensAloneTo m image
   alone image holds = (opens_to image holds.both, opens_to (record image { log = [] }) holds.alone)
 
-  pub leaves_map : (files : Files D) → IsCopied store files → LeavesMap files m
+  pub leaves_map : (files : Files D) → IsCopied store files → LeavesMap g files m
   leaves_map files copied = record { seen = alone _ copied.seen; left = λ image may. alone image (copied.left image may) }
 
 -- what a close leaves, where the connection is that of the store

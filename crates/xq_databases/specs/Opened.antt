@@ -48,6 +48,11 @@ OpensTo m image = (db : Database) (found : Map) → IsFoundIn true image db → 
 abbrev pub OpensAloneTo : Map → Image → Type 0
 OpensAloneTo m image = OpensTo m image × OpensTo m (record image { log = [] })
 
+-- the files as they read now, and as a crash leaves them, open to the map
+pub record LeavesMap {D : Type 0} (g : Ghosts D) (files : Files D) (m : Map) : Type 0 where
+  pub seen : OpensAloneTo m (image_of g files)
+  pub left : (image : Image) → outcomes g files.log files.db image → OpensAloneTo m image
+
 module _ {D : Type 0} {g : Ghosts D} where
   -- the store stands for the map of the database that the files held
   pub record StandsForFiles (image : Image) (store : Held (FileStore D g)) : Type 0 where
@@ -55,14 +60,9 @@ module _ {D : Type 0} {g : Ghosts D} where
     pub held : FilesHold image map
     pub stands : StandsFor over_files store map
 
-  -- the files as they read now, and as a crash leaves them, open to the map
-  pub record LeavesMap (files : Files D) (m : Map) : Type 0 where
-    pub seen : OpensAloneTo m (image_of g files)
-    pub left : (image : Image) → outcomes g files.log files.db image → OpensAloneTo m image
-
   -- The database file holds what the store's tables held, with its log and without it, as it reads
   -- now and after a crash; and whatever map the store stood for, the files open to it.
   pub record IsLeftIn (store : Held (FileStore D g)) (files : Files D) : Type 0 where
     pub copied : IsCopied store files
     pub settled : (file_state store).committed.trees ≡ (file_state store).now.trees
-    pub map : (m : Map) → StandsFor over_files store m → LeavesMap files m
+    pub map : (m : Map) → StandsFor over_files store m → LeavesMap g files m

@@ -1,4 +1,4 @@
-//! A store whose documents live in a file.
+//! A store whose documents live in a file, and are there at the next start.
 ghost use Rattle.std.specs.Prelude.{◌≡◌, IfSome, IsTrue, false, true};
 ghost use Rattle.sqlite_std_file.specs.File.{IsFresh, file_is_usable};
 ghost use Rattle.sqlite.specs.Files.{over_files};
@@ -20,44 +20,6 @@ const KEPT_BYTES: usize = 8_192_000;
 
 /// The log of a file has so many bytes of pages before it is copied.
 const LOG_BYTES: usize = 4_096_000;
-
-/// A store whose documents live in a file, and are there at the next start.
-///
-/// `S` stands for what the files hold as they are opened, which no code can read.
-pub struct DiskStore<S: Start> {
-    /// The store, to be served.
-    pub store: Store<FileStore<FileFrom<S>>>,
-}
-
-impl<S: Start> DiskStore<S> {
-    /// The store in the file at a path, as [`open_store`] has it.
-    pub fn open(rt: &HostRuntime, path: &str, start: S) -> Option<DiskStore<S>>
-        ensures found { IfSome result (λ disk. IsClean over_files disk.store
-            → StandsForFiles (image_at S.Start) disk.store) }
-        ensures open { IfSome result (λ disk. IsClean over_files disk.store
-            → IsOpen over_files disk.store) }
-    {
-        let store = open_store(rt, path, start)?;
-        Some(DiskStore { store })
-    }
-
-    /// Gives the store itself.
-    pub fn into_store(self) -> Store<FileStore<FileFrom<S>>>
-        ensures { result ≡ self.store }
-    {
-        let DiskStore { store } = self;
-        store
-    }
-
-    /// Copies the log into the file, and gives both files, as [`close_store`] has it.
-    pub fn close(self) -> Option<Files<FileFrom<S>>>
-        ensures { IfSome result (λ files. AreClean ⟦<FileFrom<S> as Disk>⟧ files.log files.db
-            → IsLeftIn self.store files) }
-    {
-        let DiskStore { store } = self;
-        close_store(store)
-    }
-}
 
 /// The store in the file at a path; an absent or empty file becomes an empty store. None for a file
 /// that is no store, that can't be read or written, that another program holds or that is damaged:
@@ -126,12 +88,5 @@ pub fn close_store<S: Start>(store: Store<FileStore<FileFrom<S>>>) -> Option<Fil
             drop(left.close());
             None
         }
-    }
-}
-
-// It is written out, so that a caller does not prove again how each part is dropped.
-impl<S: Start> Drop for DiskStore<S> {
-    fn drop(self) {
-        let DiskStore { store: _store } = self;
     }
 }

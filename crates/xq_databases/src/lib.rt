@@ -10,5 +10,5 @@ mod disk_stores;
 mod files;
 mod memory_stores;
 
-pub use disk_stores::DiskStore;
+pub use disk_stores::{close_store, open_store};
 pub use memory_stores::MemoryStore;

@@ -1,7 +1,8 @@
 //! A store whose documents live in memory.
-ghost use Rattle.std.specs.Prelude.{◌≡◌, IfOk};
+ghost use Rattle.std.specs.Prelude.{◌≡◌, IfOk, false};
 ghost use Rattle.std.specs.FinMap.{empty};
 ghost use Rattle.sqlite.specs.Files.{over_files};
+ghost use Rattle.xq_store.specs.Adoption.{IsBlank};
 ghost use Rattle.xq_tables.specs.Documents.{IsClean, IsOpen, StandsFor};
 
 use crate::databases::{Bounds, database_in};
@@ -35,11 +36,7 @@ impl MemoryStore {
         ensures open { IfOk result (λ made. IsOpen over_files made.store) }
         ensures none { IfOk result (λ made. StandsFor over_files made.store empty) }
     {
-        let conn = new_database(alloc)?;
-        if !conn.is_autocommit() || !is_blank(conn.schema()) {
-            return Err(Want::Store);
-        }
-        match Store::adopt(alloc, conn) {
+        match Store::adopt(alloc, new_database(alloc)?) {
             Ok(store) => Ok(MemoryStore { store }),
             Err((OpenFault::Want(want), _held)) => Err(want),
             Err((OpenFault::NotAStore, _held)) => Err(Want::Store),
@@ -55,15 +52,23 @@ impl MemoryStore {
     }
 }
 
-/// A database without a table on two empty disks in memory.
-fn new_database(alloc: Global) -> Result<Connection<FileStore<MemoryDisk>>, Want> {
+/// A database without a table, on two disks in memory.
+fn new_database(alloc: Global) -> Result<Connection<FileStore<MemoryDisk>>, Want>
+    ensures outside { IfOk result (λ conn. conn.in_transaction ≡ false) }
+    ensures blank { IfOk result (λ conn. IsBlank over_files conn) }
+{
     let files = Files {
         log: MemoryDisk::new(alloc),
         db: MemoryDisk::new(alloc),
     };
-    match database_in(alloc, files, IN_MEMORY, false) {
-        Ok(conn) => Ok(conn),
-        Err((want, _held)) => Err(want),
+    let conn = match database_in(alloc, files, IN_MEMORY, false) {
+        Ok(conn) => conn,
+        Err((want, _held)) => return Err(want),
+    };
+    if conn.is_autocommit() && is_blank(conn.schema()) {
+        Ok(conn)
+    } else {
+        Err(Want::Store)
     }
 }
 

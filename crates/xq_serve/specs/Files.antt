@@ -15,7 +15,7 @@ use Rattle.xq_tables.specs.Documents.{Map}
 
 -- `image` is what the files held; `before` and `left` are what the reader will give, at the start and
 -- at the end, `held` and `holding` what the writer holds, each where it is known.
-pub record ServesFiles {D : Type 0} {g : Ghosts D} (image : Image)
+pub record ServesFiles {D : Type 0} (g : Ghosts D) (image : Image)
     (before left held holding : Option (List ℕ)) (bound : ℕ) (end : End) (files : Files D) : Type 0 where
   -- the files held these documents
   pub old : Map
@@ -32,4 +32,4 @@ pub record ServesFiles {D : Type 0} {g : Ghosts D} (image : Image)
   pub new : Map
   pub run : Run old messages replies new
   -- and the files open to the documents that the last of them left
-  pub leaves : LeavesMap {g = g} files new
+  pub leaves : LeavesMap g files new

@@ -7,7 +7,8 @@ ghost use Rattle.xq_serve.specs.Files.{ServesFiles};
 use sqlite::{FileFrom, Files, Start};
 use sqlite_disk::Disk;
 use std::io::{Read, Write};
-use xq_databases::DiskStore;
+use xq_databases::{close_store, open_store};
+use xq_frame::Counted;
 use xq_server::{End, Server};
 
 /// Serves the database in the file at a path: how the service ended, and the files, which are closed
@@ -21,18 +22,19 @@ pub fn serve_file<S: Start, R: Read, W: Write>(
     rt: &HostRuntime,
     path: &str,
     start: S,
-    reader: &mut R,
-    writer: &mut W,
+    reader: &mut Counted<R>,
+    writer: &mut Counted<W>,
     max_frames: u64,
 ) -> Option<(End, Option<Files<FileFrom<S>>>)>
     ensures { IfSome result (λ served. IfSome served.1 (λ files.
         AreClean ⟦<FileFrom<S> as Disk>⟧ files.log files.db
-        → ServesFiles (image_at S.Start) (R.remaining reader.old) (R.remaining reader.new)
-        (W.contents writer.old) (W.contents writer.new) max_frames served.0 files)) }
+        → ServesFiles ⟦<FileFrom<S> as Disk>⟧ (image_at S.Start)
+        (R.remaining reader.old.inner) (R.remaining reader.new.inner)
+        (W.contents writer.old.inner) (W.contents writer.new.inner) max_frames served.0 files)) }
 {
-    let disk = DiskStore::open(rt, path, start)?;
-    let mut server = Server::new(rt.alloc(), disk.into_store());
+    let store = open_store(rt, path, start)?;
+    let mut server = Server::new(rt.alloc(), store);
     let end = server.serve(reader, writer, max_frames);
     let store = server.into_store();
-    Some((end, DiskStore { store }.close()))
+    Some((end, close_store(store)))
 }

@@ -15,6 +15,7 @@ use xq_command::endings::outcome;
 use xq_command::tasks::Asked;
 use xq_command::words::asked;
 use xq_databases::MemoryStore;
+use xq_frame::Counted;
 use xq_server::{End, Server};
 
 /// The program ends once it has answered so many frames.
@@ -84,11 +85,12 @@ fn serve_in_memory<R: Input + Print + AllocGlobal>(rt: &R) -> (u8, &'static str)
     let Ok(memory) = MemoryStore::new(rt.alloc()) else {
         return CANNOT_OPEN;
     };
-    let Ok(mut reader) = BufReader::new(rt.alloc(), rt.reader()) else {
+    let Ok(reader) = BufReader::new(rt.alloc(), rt.reader()) else {
         return outcome(End::NoRoom);
     };
     let mut server = Server::new(rt.alloc(), memory.into_store());
-    let end = server.serve(&mut reader, &mut io::writer(rt), MAX_FRAMES);
+    let (mut reader, mut writer) = (Counted::new(reader), Counted::new(io::writer(rt)));
+    let end = server.serve(&mut reader, &mut writer, MAX_FRAMES);
     let _ended = MemoryStore {
         store: server.into_store(),
     };
@@ -97,10 +99,11 @@ fn serve_in_memory<R: Input + Print + AllocGlobal>(rt: &R) -> (u8, &'static str)
 
 /// Serves the database in the file: the exit status, and the line on standard error.
 fn serve_in_file(rt: &HostRuntime, path: &str) -> (u8, &'static str) {
-    let Ok(mut reader) = BufReader::new(rt.alloc(), rt.reader()) else {
+    let Ok(reader) = BufReader::new(rt.alloc(), rt.reader()) else {
         return outcome(End::NoRoom);
     };
-    match serve_file(rt, path, Unknown, &mut reader, &mut io::writer(rt), MAX_FRAMES) {
+    let (mut reader, mut writer) = (Counted::new(reader), Counted::new(io::writer(rt)));
+    match serve_file(rt, path, Unknown, &mut reader, &mut writer, MAX_FRAMES) {
         Some((end, _files)) => outcome(end),
         None => CANNOT_OPEN,
     }
