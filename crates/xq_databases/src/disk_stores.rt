@@ -81,7 +81,9 @@ pub fn close_store<S: Start>(store: Store<FileStore<FileFrom<S>>>) -> Option<Fil
         → IsLeftIn store files) }
 {
     let conn = store.release();
+    // Their clauses tell of the connection, which is in no transaction, what its tables are.
     let _settled = conn.is_autocommit();
+    let _schema = conn.schema();
     match conn.close_files() {
         Ok(files) => Some(files),
         Err((_error, left)) => {
