@@ -11,4 +11,4 @@ pub returns-in-Ok-clause-open : goal.returns-in-Ok-clause-open
 returns-in-Ok-clause-open c = (c.in-Ok.ensures.open (returns-in-Ok-clause-clean c)).0
 
 pub returns-in-Ok-clause-none : goal.returns-in-Ok-clause-none
-returns-in-Ok-clause-none c = c.in-Ok.ensures.made (returns-in-Ok-clause-clean c) c.in_ok-conn.ensures.blank
+returns-in-Ok-clause-none c = c.in-Ok.ensures.made (returns-in-Ok-clause-clean c) c.in_ok-new_database.ensures.blank
