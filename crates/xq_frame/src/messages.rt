@@ -30,11 +30,7 @@ pub enum Taken {
 
 /// Takes the message of the next frame, in as many pieces as the reader gives it.
 /// Its reads that are interrupted are made again while there are tries.
-pub fn take_message<R: Read>(
-    alloc: Global,
-    reader: &mut Counted<R>,
-    tries: &mut Tries,
-) -> Taken
+pub fn take_message<R: Read>(alloc: Global, reader: &mut Counted<R>, tries: &mut Tries) -> Taken
     ensures taken { (taken : List ℕ)
         × Consumes (R.remaining reader.old.inner) (R.remaining reader.new.inner) taken
         × Takes result taken (R.remaining reader.new.inner) }

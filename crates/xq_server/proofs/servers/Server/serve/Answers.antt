@@ -25,6 +25,41 @@ returns-in-Cut-clause-served g c =
       ),
     )
 
+pub returns-in-End-clause-served : goal.returns-in-End-clause-served
+returns-in-End-clause-served g c =
+    let so_far = c.loop-count.invariant in
+    let got = c.in-End.ensures.taken in (
+      so_far.0,
+      so_far.1,
+      got.0,
+      written so_far.1,
+      (
+        served_taken (IsClean g.S.Store) (StandsFor g.S.Store) _ _ _ _ _ _ _ so_far.0 so_far.1 got.0 so_far.2 got.1,
+        (got.2.0, got.2.1, refl, omega (arith, so_far.3, c.loop-count-test.true)),
+        omega (arith, so_far.3, so_far.5, c.for_a_frame-tries.ensures, c.loop-count-test.true, c.in-End.ensures.borne),
+      ),
+    )
+
+pub returns-in-Fault-clause-served : goal.returns-in-Fault-clause-served
+returns-in-Fault-clause-served g c =
+    let so_far = c.loop-count.invariant in
+    let got = c.in-Fault.ensures.taken in (
+      so_far.0,
+      so_far.1,
+      got.0,
+      written so_far.1,
+      (
+        served_taken (IsClean g.S.Store) (StandsFor g.S.Store) _ _ _ _ _ _ _ so_far.0 so_far.1 got.0 so_far.2 got.1,
+        (got.2, refl, omega (arith, so_far.3, c.loop-count-test.true)),
+        omega (arith, so_far.3, so_far.5, c.for_a_frame-tries.ensures, c.loop-count-test.true, c.in-Fault.ensures.borne),
+      ),
+    )
+
+pub returns-clause-served : goal.returns-clause-served
+returns-clause-served g c =
+    let so_far = c.loop-count.invariant in
+    (so_far.0, so_far.1, [], written so_far.1, (so_far.2, (refl, refl, omega (arith, so_far.3)), omega (arith, so_far.3, so_far.5)))
+
 pub returns-in-NoRoom-clause-served : goal.returns-in-NoRoom-clause-served
 returns-in-NoRoom-clause-served g c =
     let so_far = c.loop-count.invariant in
