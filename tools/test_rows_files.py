@@ -127,6 +127,21 @@ class FileTest(OverFile):
         self.assertFalse(self.is_opened())
         os.rmdir(self.path)
 
+    def check_pages(self, made: list[str], size: int) -> None:
+        """Checks that a document is stored and found on pages of this size, which stock SQLite reads."""
+        self.clear()
+        make(self.path, made)
+        self.check_rows("stored", [{"put": "library", "reply": "stored"}])
+        self.assertEqual(shown(self.path, "PRAGMA page_size"), f"{size}|")
+        self.assertEqual(shown(self.path, "PRAGMA integrity_check"), "ok|")
+        self.check_rows("found", [{"kind": "L", "reply": '"b"'}])
+
+    def test_new_files_have_small_pages_and_others_keep_theirs(self) -> None:
+        self.check_pages([], 1024)
+        for size in (512, 1024, 4096, 65536):
+            with self.subTest(size):
+                self.check_pages([f"PRAGMA page_size = {size}", "layout", "node", "one"], size)
+
     def check_kept(self, group: Group) -> None:
         """Checks the replies of a server for each row."""
         self.clear()

@@ -1,5 +1,6 @@
-//! A store whose documents live in a file.
-ghost use Rattle.std.specs.Prelude.{◌≡◌, IfSome};
+//! A store whose documents live in a file, and are there at the next start.
+ghost use Rattle.std.specs.Prelude.{◌≡◌, IfSome, IsTrue, false, true};
+ghost use Rattle.sqlite_std_file.specs.File.{IsFresh, file_is_usable};
 ghost use Rattle.sqlite.specs.Files.{over_files};
 ghost use Rattle.sqlite.specs.WalFiles.{image_at};
 ghost use Rattle.sqlite_wal.specs.Reads.{AreClean};
@@ -7,43 +8,18 @@ ghost use Rattle.xq_tables.specs.Documents.{IsClean, IsOpen};
 ghost use Rattle.xq_databases.specs.Opened.{IsLeftIn, StandsForFiles};
 
 use crate::adopting::adopted;
+use crate::databases::{Bounds, database_in};
 use crate::files::{absent_log, has_one_byte, remove_log};
-use sqlite::{Connection, FileFrom, FileStore, Files, Start, Unknown};
+use sqlite::{FileFrom, FileStore, Files, Start};
 use sqlite_disk::Disk;
+use std::hash::{BuildHasher, RandomState};
 use xq_store::Store;
 
-/// A store whose documents live in a file, and are there at the next start.
-pub struct DiskStore {
-    /// The store, to be served.
-    pub store: Store<FileStore<FileFrom<Unknown>>>,
-}
+/// Of the pages of a file so many bytes are kept that were read, and so many that were written.
+const KEPT_BYTES: usize = 8_192_000;
 
-impl DiskStore {
-    /// The store in the file at a path, as [`open_store`] has it.
-    pub fn open(rt: &HostRuntime, path: &str) -> Option<DiskStore>
-        ensures found { IfSome result (λ disk. IsClean over_files disk.store
-            → StandsForFiles (image_at ⟦<Unknown as Start>⟧) disk.store) }
-        ensures open { IfSome result (λ disk. IsClean over_files disk.store
-            → IsOpen over_files disk.store) }
-    {
-        let store = open_store(rt, path, Unknown)?;
-        Some(DiskStore { store })
-    }
-
-    /// Gives the store itself.
-    pub fn into_store(self) -> Store<FileStore<FileFrom<Unknown>>>
-        ensures { result ≡ self.store }
-    {
-        let DiskStore { store } = self;
-        store
-    }
-
-    /// Copies the log into the file, as [`close_store`] has it, and says whether that could be done.
-    pub fn close(self) -> bool {
-        let DiskStore { store } = self;
-        close_store(store).is_some()
-    }
-}
+/// The log of a file has so many bytes of pages before it is copied.
+const LOG_BYTES: usize = 4_096_000;
 
 /// The store in the file at a path; an absent or empty file becomes an empty store. None for a file
 /// that is no store, that can't be read or written, that another program holds or that is damaged:
@@ -67,14 +43,34 @@ pub fn open_store<S: Start>(
     let Ok(log) = absent_log(rt, path) else {
         return None;
     };
-    match Connection::open_from(rt, path, true, start) {
+    let bounds = Bounds {
+        kept: KEPT_BYTES,
+        logged: LOG_BYTES,
+        seed: RandomState::new(rt).ok()?.hash_one(&0u8),
+    };
+    let files = files_at(rt, path, start)?;
+    match database_in(rt.alloc(), files, bounds, true) {
         Ok(conn) => adopted(rt, conn, log),
-        Err((_error, held)) => {
-            if held.is_some() {
-                remove_log(rt, log);
-            }
+        Err((_want, _held)) => {
+            remove_log(rt, log);
             None
         }
+    }
+}
+
+/// The log and the database file at a path, which are made where they are absent and held until they
+/// are let go. None for a name that means something else to SQLite than a file.
+fn files_at<S: Start>(rt: &HostRuntime, path: &str, start: S) -> Option<Files<FileFrom<S>>>
+    ensures log { IfSome result (λ files. IsTrue (file_is_usable S.Start files.log)) }
+    ensures db { IfSome result (λ files. IsTrue (file_is_usable S.Start files.db)) }
+    ensures fresh { IfSome result (λ files. IsFresh true files.log × IsFresh false files.db) }
+{
+    if path == ":memory:" || path.starts_with("file:") {
+        return None;
+    }
+    match sqlite_std_file::open(rt, path, start) {
+        Ok(files) => Some(files),
+        Err(_) => None,
     }
 }
 
@@ -85,19 +81,14 @@ pub fn close_store<S: Start>(store: Store<FileStore<FileFrom<S>>>) -> Option<Fil
         → IsLeftIn store files) }
 {
     let conn = store.release();
+    // Their clauses tell of the connection, which is in no transaction, what its tables are.
     let _settled = conn.is_autocommit();
+    let _schema = conn.schema();
     match conn.close_files() {
         Ok(files) => Some(files),
         Err((_error, left)) => {
             drop(left.close());
             None
         }
-    }
-}
-
-// It is written out, so that a caller does not prove again how each part is dropped.
-impl Drop for DiskStore {
-    fn drop(self) {
-        let DiskStore { store: _store } = self;
     }
 }

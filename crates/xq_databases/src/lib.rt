@@ -5,9 +5,10 @@
 #![tactic(auto)]
 
 mod adopting;
+mod databases;
 mod disk_stores;
 mod files;
 mod memory_stores;
 
-pub use disk_stores::DiskStore;
+pub use disk_stores::{close_store, open_store};
 pub use memory_stores::MemoryStore;

@@ -4,4 +4,5 @@ pub mod Next
 pub mod Reply
 pub mod Taking
 pub mod Sending
+pub mod Interruptions
 pub mod private

@@ -2,6 +2,7 @@
 //! a reader and replies to a writer, each whole though they come and go in pieces.
 #![tactic(auto)]
 
+mod counted;
 mod frames;
 mod messages;
 mod replies;
@@ -9,6 +10,7 @@ mod requests;
 mod sending;
 mod tries;
 
+pub use counted::Counted;
 pub use frames::{Frame, MAX_MESSAGE, Next, frame_of, next_frame, number_at_start, splits_once};
 pub use messages::{Taken, take_message};
 pub use replies::{MAX_TEXT, reply_header};

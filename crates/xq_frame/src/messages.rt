@@ -1,9 +1,11 @@
 //! The message of one frame, taken from a reader.
 ghost use Rattle.std.specs.Prelude.{◌≡◌, ◌≤◌, ℕ, List};
 ghost use Rattle.std.specs.Io.KnownBytes.{Consumes};
+ghost use Rattle.xq_frame.specs.Interruptions.{IsBorne, given_up};
 ghost use Rattle.xq_frame.specs.Taking.{Takes};
-ghost use Rattle.xq_frame.specs.private.Filling.{Fills};
+ghost use Rattle.xq_frame.specs.private.Filling.{Fills, unfilled};
 
+use crate::counted::Counted;
 use crate::frames::{MAX_MESSAGE, number_at_start};
 use crate::tries::Tries;
 use std::alloc::Global;
@@ -27,11 +29,14 @@ pub enum Taken {
 }
 
 /// Takes the message of the next frame, in as many pieces as the reader gives it.
-pub fn take_message<R: Read>(alloc: Global, reader: &mut R, tries: &mut Tries) -> Taken
+/// Its reads that are interrupted are made again while there are tries.
+pub fn take_message<R: Read>(alloc: Global, reader: &mut Counted<R>, tries: &mut Tries) -> Taken
     ensures taken { (taken : List ℕ)
-        × Consumes (R.remaining reader.old) (R.remaining reader.new) taken
-        × Takes result taken (R.remaining reader.new) }
+        × Consumes (R.remaining reader.old.inner) (R.remaining reader.new.inner) taken
+        × Takes result taken (R.remaining reader.new.inner) }
     ensures tries { tries.new.left ≤ tries.old.left }
+    ensures borne { IsBorne (given_up result) tries.old.left tries.new.left
+        reader.old.interruptions reader.new.interruptions }
 {
     let mut head = [0; 4];
     match fill(reader, &mut head, tries) {
@@ -67,9 +72,12 @@ enum Filled {
 }
 
 /// Fills the buffer, by as many reads as it takes.
-fn fill<R: Read>(reader: &mut R, buf: &mut [u8], tries: &mut Tries) -> Filled
-    ensures filled { Fills (R.remaining reader.old) (R.remaining reader.new) buf.new result }
+fn fill<R: Read>(reader: &mut Counted<R>, buf: &mut [u8], tries: &mut Tries) -> Filled
+    ensures filled { Fills (R.remaining reader.old.inner) (R.remaining reader.new.inner)
+        buf.new result }
     ensures tries { tries.new.left ≤ tries.old.left }
+    ensures borne { IsBorne (unfilled result) tries.old.left tries.new.left
+        reader.old.interruptions reader.new.interruptions }
 {
     let mut at = 0;
     'reads: while at < buf.len() {

@@ -2,7 +2,10 @@
 //! memory or in a file, and writes each reply to its standard output.
 #![tactic(auto)]
 
-use sqlite::Alter;
+mod files;
+
+use files::serve_file;
+use sqlite::Unknown;
 use std::alloc::AllocError;
 use std::io::{BufReader, ErrorKind, Write};
 use std::process::ExitCode;
@@ -11,9 +14,9 @@ use std::{env, io};
 use xq_command::endings::outcome;
 use xq_command::tasks::{Asked, Task};
 use xq_command::words::asked;
-use xq_databases::{DiskStore, MemoryStore};
+use xq_databases::MemoryStore;
+use xq_frame::Counted;
 use xq_server::{End, Server};
-use xq_store::Store;
 
 /// The program ends once it has answered so many frames.
 const MAX_FRAMES: u64 = 1_000_000;
@@ -37,7 +40,7 @@ fn conclusion(rt: &HostRuntime) -> (u8, &'static str) {
         Asked::Serve(Task {
             file: Some(path),
             kept,
-        }) => serve_file(rt, path.as_str(), kept),
+        }) => serve_in_file(rt, path.as_str(), kept),
         Asked::Help(text) => outcome(print_help(rt, text.as_str())),
         Asked::Bad => (2, "xq_server: bad command line"),
         Asked::NoRoom => outcome(End::NoRoom),
@@ -88,38 +91,27 @@ fn serve_in_memory<R: Input + Print + AllocGlobal>(
     let Ok(memory) = MemoryStore::new(rt.alloc()) else {
         return CANNOT_OPEN;
     };
-    let (store, end) = serve(rt, keeping(memory.into_store(), kept));
-    let _ended = MemoryStore { store };
+    let Ok(reader) = BufReader::new(rt.alloc(), rt.reader()) else {
+        return outcome(End::NoRoom);
+    };
+    let store = memory.into_store().keeping(kept);
+    let mut server = Server::new(rt.alloc(), store);
+    let (mut reader, mut writer) = (Counted::new(reader), Counted::new(io::writer(rt)));
+    let end = server.serve(&mut reader, &mut writer, MAX_FRAMES);
+    let _ended = MemoryStore {
+        store: server.into_store(),
+    };
     outcome(end)
 }
 
 /// Serves the database in the file: the exit status, and the line on standard error.
-fn serve_file(rt: &HostRuntime, path: &str, kept: Option<usize>) -> (u8, &'static str) {
-    let Some(file) = DiskStore::open(rt, path) else {
-        return CANNOT_OPEN;
+fn serve_in_file(rt: &HostRuntime, path: &str, kept: Option<usize>) -> (u8, &'static str) {
+    let Ok(reader) = BufReader::new(rt.alloc(), rt.reader()) else {
+        return outcome(End::NoRoom);
     };
-    let (store, end) = serve(rt, keeping(file.into_store(), kept));
-    let _is_closed = DiskStore { store }.close();
-    outcome(end)
-}
-
-/// The store, which keeps so many bytes of what queries read, where that is said.
-fn keeping<S: Alter>(store: Store<S>, kept: Option<usize>) -> Store<S> {
-    match kept {
-        Some(bytes) => store.keeping(bytes),
-        None => store,
+    let (mut reader, mut writer) = (Counted::new(reader), Counted::new(io::writer(rt)));
+    match serve_file(rt, path, Unknown, kept, &mut reader, &mut writer, MAX_FRAMES) {
+        Some((end, _files)) => outcome(end),
+        None => CANNOT_OPEN,
     }
-}
-
-/// Answers the frames of standard input over the store, and gives it back.
-fn serve<R: Input + Print + AllocGlobal, S: Alter + Drop>(
-    rt: &R,
-    store: Store<S>,
-) -> (Store<S>, End) {
-    let mut server = Server::new(rt.alloc(), store);
-    let end = match BufReader::new(rt.alloc(), rt.reader()) {
-        Ok(mut reader) => server.serve(&mut reader, &mut io::writer(rt), MAX_FRAMES),
-        Err(_) => End::NoRoom,
-    };
-    (server.into_store(), end)
 }

@@ -12,7 +12,7 @@ use Rattle.xq_frame.specs.declared.frames.Frame.{Frame}
 use Rattle.xq_tables.specs.Documents.{Map}
 use Rattle.xq_frame.specs.Taking.{IsLongHead}
 use Rattle.xq_server.specs.Run.{Reply, bytes_of, written, Answered, long_reply}
-use Rattle.xq_server.specs.Service.{Served, Serves, BreaksOff}
+use Rattle.xq_server.specs.Service.{BearsFew, Served, Serves, BreaksOff}
 use Rattle.xq_server.specs.private.Ends.{EndsLong}
 use Rattle.xq_server.specs.declared.ends.End.{End}
 use Rattle.xq_server.specs.declared.ends.End.TheVariants.{Finished, Cut, TooLong, Bound, ReadFault, WriteFault, NoRoom}
@@ -91,15 +91,16 @@ module _ {D : Type 0} (clean : D → Type 0) (stands : D → Map → Type 0) whe
   pub serves_long : (old new : D) (before left left' held holding holding' : Option (List ℕ)) (messages : List (List ℕ)) (replies : List Reply) (taken : List ℕ) (bound : ℕ) (end : End)
       → Served clean stands old new before left held holding messages replies [] (written replies)
       → Consumes left left' taken → IsLongHead taken → length messages < bound → EndsLong holding holding' end
-      → Serves clean stands old new before left' held holding' bound end
-  serves_long old new before left left' held holding holding' messages replies taken bound TooLong so_far took long below ends = (
+      → (interrupted later : ℕ) → BearsFew bound (length messages) interrupted later
+      → Serves clean stands old new before left' held holding' bound interrupted later end
+  serves_long old new before left left' held holding holding' messages replies taken bound TooLong so_far took long below ends interrupted later few = (
     messages,
     replies,
     taken,
     written replies ++ long_reply,
-    (served_on old new before left left' held holding holding' messages replies taken long_reply so_far took ends, (long, refl, below)),
+    (served_on old new before left left' held holding holding' messages replies taken long_reply so_far took ends, (long, refl, below), few),
   )
-  serves_long old new before left left' held holding holding' messages replies taken bound WriteFault so_far took long below ends =
+  serves_long old new before left left' held holding holding' messages replies taken bound WriteFault so_far took long below ends interrupted later few =
       let sent = ends.0 in (
         messages,
         replies,
@@ -108,16 +109,17 @@ module _ {D : Type 0} (clean : D → Type 0) (stands : D → Map → Type 0) whe
         (
           served_on old new before left left' held holding holding' messages replies taken sent so_far took ends.2,
           (inr (long, (sent, (ends.1, ends.3), refl)), omega (arith, below)),
+          few,
         ),
       )
-  serves_long old new before left left' held holding holding' messages replies taken bound NoRoom so_far took long below ends = (
+  serves_long old new before left left' held holding holding' messages replies taken bound NoRoom so_far took long below ends interrupted later few = (
     messages,
     replies,
     taken,
     written replies ++ [],
-    (served_on old new before left left' held holding holding' messages replies taken [] so_far took ends, (inr (inr long), append-nil (written replies), below)),
+    (served_on old new before left left' held holding holding' messages replies taken [] so_far took ends, (inr (inr long), append-nil (written replies), below), few),
   )
-  serves_long old new before left left' held holding holding' messages replies taken bound Finished so_far took long below ends = absurd ends
-  serves_long old new before left left' held holding holding' messages replies taken bound Cut so_far took long below ends = absurd ends
-  serves_long old new before left left' held holding holding' messages replies taken bound Bound so_far took long below ends = absurd ends
-  serves_long old new before left left' held holding holding' messages replies taken bound ReadFault so_far took long below ends = absurd ends
+  serves_long old new before left left' held holding holding' messages replies taken bound Finished so_far took long below ends interrupted later few = absurd ends
+  serves_long old new before left left' held holding holding' messages replies taken bound Cut so_far took long below ends interrupted later few = absurd ends
+  serves_long old new before left left' held holding holding' messages replies taken bound Bound so_far took long below ends interrupted later few = absurd ends
+  serves_long old new before left left' held holding holding' messages replies taken bound ReadFault so_far took long below ends interrupted later few = absurd ends

@@ -1,6 +1,6 @@
 -- A service: frames are taken from a reader in whatever pieces it gives them, and each reply is
 -- given to a writer before the next frame is taken.
-use Rattle.std.specs.Prelude.{◌≡◌, ℕ, ◌<◌, ◌≤◌, List, [], ◌∷◌, ◌++◌, length, Option, ◌⊎◌}
+use Rattle.std.specs.Prelude.{◌≡◌, ℕ, ◌+◌, ◌*◌, ◌<◌, ◌≤◌, min, List, [], ◌∷◌, ◌++◌, length, Option, ◌⊎◌}
 use Rattle.std.specs.List.{flat_map}
 use Rattle.std.specs.Io.KnownBytes.{Consumes, Appends, IsAtEnd}
 use Rattle.xq_frame.specs.Frame.{frame_bytes, IsMessage, IsCut}
@@ -51,8 +51,15 @@ EndsService NoRoom bound count replies rest sent left = IsNotCarriedOut rest
 EndsService WriteFault bound count replies rest sent left = BreaksOff replies rest sent
     × (count ≤ bound)
 
+-- At most `bound` frames are taken, each with its reply, the one at hand at the end included. Of each
+-- at most 999 interrupted calls are made again, and the call after which the service ends for a fault
+-- is one more.
+abbrev pub BearsFew : ℕ → ℕ → ℕ → ℕ → Type 0
+BearsFew bound frames before after = after ≤ before + 999 * min bound (frames + 1) + 1
+
 -- Below, D, `clean` and `stands` are as in Run. `before` and `left` are what the reader will give,
--- at the start and at the end, `held` and `holding` what the writer holds, each where it is known.
+-- at the start and at the end, `held` and `holding` what the writer holds, each where it is known;
+-- `interrupted` and `later` are how many of their calls were interrupted.
 module _ {D : Type 0} (clean : D → Type 0) (stands : D → Map → Type 0) where
   -- these frames and a rest were taken, this was given, and the frames were answered by these
   -- replies
@@ -64,8 +71,9 @@ module _ {D : Type 0} (clean : D → Type 0) (stands : D → Map → Type 0) whe
 
   -- The headline for a service: each frame taken has its reply, and the rest says why no more are.
   abbrev pub Serves : D → D → Option (List ℕ) → Option (List ℕ) → Option (List ℕ) → Option (List ℕ)
-      → ℕ → End → Type 0
-  Serves old new before left held holding bound end =
+      → ℕ → ℕ → ℕ → End → Type 0
+  Serves old new before left held holding bound interrupted later end =
       (messages : List (List ℕ)) × (replies : List Reply) × (rest : List ℕ) × (sent : List ℕ)
       × (Served old new before left held holding messages replies rest sent
-      × EndsService end bound (length messages) replies rest sent left)
+      × EndsService end bound (length messages) replies rest sent left
+      × BearsFew bound (length messages) interrupted later)

@@ -3,6 +3,7 @@
 ghost use Rattle.std.specs.Prelude.{◌≡◌, ◌+◌, ◌<◌, ◌++◌, ◌⊎◌, OnOk, OnErr, IfErr, vec_len, vec_capacity};
 ghost use Rattle.xq_atoms.specs.declared.refusals.Want.TheVariants.{Memory};
 ghost use Rattle.xq_tables.specs.Documents.{IsClean, IsOpen, StandsFor};
+ghost use Rattle.xq_frame.specs.Interruptions.{IsBorne};
 ghost use Rattle.xq_frame.specs.Request.{request_meaning};
 ghost use Rattle.xq_server.specs.Run.{Reply, Answered, RunsTo, long_reply};
 ghost use Rattle.xq_server.specs.Service.{Serves};
@@ -16,7 +17,7 @@ use std::alloc::Global;
 use std::io::{Read, Write};
 use std::marker::Model;
 use xq_atoms::{Code, Fault, Want};
-use xq_frame::{Frame, Next, Taken, Tries, frame_of, next_frame, send, take_message};
+use xq_frame::{Counted, Frame, Next, Taken, Tries, frame_of, next_frame, send, take_message};
 use xq_store::Store;
 
 /// A server over a store of documents. Contracts see the store.
@@ -102,13 +103,15 @@ impl<S: Alter + Drop> Server<S> {
     /// interrupted calls are made again; the next is a fault.
     pub fn serve<R: Read, W: Write>(
         &mut self,
-        reader: &mut R,
-        writer: &mut W,
+        reader: &mut Counted<R>,
+        writer: &mut Counted<W>,
         max_frames: u64,
     ) -> End
         ensures served { Serves (IsClean S.Store) (StandsFor S.Store) self.old self.new
-            (R.remaining reader.old) (R.remaining reader.new)
-            (W.contents writer.old) (W.contents writer.new) max_frames result }
+            (R.remaining reader.old.inner) (R.remaining reader.new.inner)
+            (W.contents writer.old.inner) (W.contents writer.new.inner) max_frames
+            (reader.old.interruptions + writer.old.interruptions)
+            (reader.new.interruptions + writer.new.interruptions) result }
         ensures was_open { IsClean S.Store self.new → IsOpen S.Store self.new
             → IsOpen S.Store self.old }
     {
@@ -137,8 +140,10 @@ impl<S: Alter + Drop> Server<S> {
 }
 
 /// Gives the writer the reply to a length over the limit.
-fn send_long<W: Write>(alloc: Global, writer: &mut W, tries: &mut Tries) -> End
-    ensures { EndsLong (W.contents writer.old) (W.contents writer.new) result }
+fn send_long<W: Write>(alloc: Global, writer: &mut Counted<W>, tries: &mut Tries) -> End
+    ensures ends { EndsLong (W.contents writer.old.inner) (W.contents writer.new.inner) result }
+    ensures borne { IsBorne 1 tries.old.left tries.new.left
+        writer.old.interruptions writer.new.interruptions }
 {
     let mut out = Vec::new(alloc);
     match refuse_long(&mut out) {

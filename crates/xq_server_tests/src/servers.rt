@@ -7,6 +7,7 @@ use std::alloc::Global;
 use std::io::{Read, Write};
 use xq_atoms::Want;
 use xq_databases::MemoryStore;
+use xq_frame::Counted;
 use xq_memory_disk::MemoryDisk;
 use xq_server::{End, Server};
 use xq_store::Store;
@@ -33,7 +34,7 @@ pub fn serve_frames<S: Alter + Drop, R: Read, W: Write>(
     writer: &mut W,
     most: u64,
 ) -> End {
-    server.serve(reader, writer, most)
+    server.serve(&mut Counted::new(reader), &mut Counted::new(writer), most)
 }
 
 /// A server whose documents live in memory.

@@ -177,12 +177,13 @@ impl<S: Alter> Store<S> {
     }
 
     /// The store, which keeps at most so many bytes of what queries read of its documents, beside
-    /// those of the document that was wanted last. A store that nobody tells keeps 134,217,728.
-    pub fn keeping(self, bytes: usize) -> Store<S>
+    /// those of the document that was wanted last. Where no number is given it keeps as many as it
+    /// did, 134,217,728 at first.
+    pub fn keeping(self, bytes: Option<usize>) -> Store<S>
         ensures { result ≡ self }
     {
         let mut store = self;
-        store.bound = bytes;
+        store.bound = bytes.unwrap_or(store.bound);
         store
     }
 

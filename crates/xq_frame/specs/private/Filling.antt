@@ -9,3 +9,8 @@ abbrev pub Fills : Option (List ℕ) → Option (List ℕ) → List ℕ → Fill
 Fills old new buf Full = Consumes old new buf
 Fills old new buf (Ended n) = Consumes old new (take n buf) × (n < length buf) × IsAtEnd new
 Fills old new buf (Broken n) = Consumes old new (take n buf) × (n < length buf)
+
+-- the last read of a buffer that found a fault was not made again
+abbrev pub unfilled : Filled → ℕ
+unfilled (Broken n) = 1
+unfilled _ = 0

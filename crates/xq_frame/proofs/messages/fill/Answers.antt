@@ -25,4 +25,4 @@ reads-preserved-in-Ok g c =
     let within = c.reads.invariant.0 in
     let part = slice_range-put_mid from room c.in-Ok.n c.reads.buf c.read.new.buf within c.in-Ok.ensures.bound.0 in
     let joined = take_split from (from + c.in-Ok.n) c.reads.buf (put_mid from room c.reads.buf c.read.new.buf) (omega arith) (take-put_mid_below _ _ _ _ _ (le_refl _) within) in
-    (search rules, subst (Consumes _ _) (ap (λ l. take from c.reads.buf ++ l) (sym part) ∙ joined) (Consumes-trans _ _ _ _ _ c.reads.invariant.1 c.in-Ok.ensures.bytes.0), c.reads.invariant.2)
+    (search rules, subst (Consumes _ _) (ap (λ l. take from c.reads.buf ++ l) (sym part) ∙ joined) (Consumes-trans _ _ _ _ _ c.reads.invariant.1 c.in-Ok.ensures.bytes.0), c.reads.invariant.2, omega (arith, c.in-Ok.ensures.counted, c.reads.invariant.3))

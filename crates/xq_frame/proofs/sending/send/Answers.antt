@@ -1,4 +1,4 @@
-use Rattle.std.proofs.Common.{◌≡◌, ℕ, ◌-◌, List, ◌++◌, length, take, drop, sym, ap, ◌∙◌, append_assoc, take-append-drop}
+use Rattle.std.proofs.Common.{◌≡◌, ℕ, ◌-◌, List, ◌++◌, length, take, drop, sym, ap, ◌∙◌, append_assoc, arith, take-append-drop}
 use Rattle.std.proofs.lemmas.List.{take_rest}
 use Rattle.std.proofs.KnownBytes.{Appends-trans}
 use Rattle.xq_frame.proofs.sending.send.Goals as goal
@@ -14,4 +14,5 @@ writes-preserved-in-Ok g c =
     let n = c.in-Ok.n in (
       (given.0 ++ take n rest, (moves_front _ given.0 rest n given.1.0, Appends-trans _ _ _ _ _ given.1.1 c.in-Ok.ensures.bytes)),
       c.writes.invariant.1,
+      omega (arith, c.in-Ok.ensures.counted, c.writes.invariant.2),
     )
