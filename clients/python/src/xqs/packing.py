@@ -103,11 +103,17 @@ def unpacked(addresses: Iterable[str]) -> str:
             f"{_nodes(1, 'string($p)')}")
 
 
+def counted(document: str, nodes: int) -> str:
+    """The expression that gives a document where it has so many nodes, and else nothing."""
+    return (f"let $d := {document} return if (count($d/descendant-or-self::node()) + "
+            f"count($d//@*) = {nodes}) then $d else ()")
+
+
 def _nodes(level: int, text: str) -> str:
-    """The expression that makes the nodes of a list, those of elements with as many levels below as
-    there may be."""
+    """The expression that makes the nodes of a list; within the deepest element is one more list,
+    which holds no other element with a list."""
     s, i, h, n, c = (f"${it}{level}" for it in "sihnc")
-    below = _nodes(level + 1, c) if level < DEEPEST else "()"
+    below = _nodes(level + 1, c) if level <= DEEPEST else "()"
     return (
         f"(let {s} := {text} for {i} in 1 to xs:integer(substring({s}, 1, 3)) "
         f"let {h} := xs:integer(substring({s}, 11 * {i} - 7, 11)), "

@@ -10,7 +10,7 @@ from dataclasses import dataclass
 
 from xqs import packing
 from xqs.errors import XqError
-from xqs.packing import Packed, packed_element, packed_leaf, part_of, unpacked
+from xqs.packing import Packed, counted, packed_element, packed_leaf, part_of, unpacked
 from xqs.protocol import MAX_LEVEL, MAX_NODES
 from xqs.temporary import Temporary
 from xqs.values import Atom, Close, Event, Leaf, NodeKind, Open, quoted
@@ -161,6 +161,7 @@ class DocumentText:
         self._parts: list[Part] = []
         self._packs = False
         """Whether nodes are packed: the document is long, as far as it is known."""
+        self._has_packed = False
 
     @property
     def nodes(self) -> int:
@@ -251,8 +252,12 @@ class DocumentText:
         return parts
 
     def whole(self) -> str:
-        """The text of the whole document, once all its elements have ended."""
-        return self._stack[0].head + ", ".join(self._stack[0].texts) + "}"
+        """The text of the whole document, once all its elements have ended.
+
+        Where nodes are packed it gives no document, should these not be as many as there were.
+        """
+        text = self._stack[0].head + ", ".join(self._stack[0].texts) + "}"
+        return counted(text, self.nodes) if self._has_packed else text
 
     def _leaf(self, kind: int, name: str, value: str) -> Packed | None:
         return packed_leaf(kind, name, value) if self._packs else None
@@ -263,13 +268,14 @@ class DocumentText:
         if run.size + size > self._limit and run.size:
             self._take_away(run)
         run.add(text, size, node)
-        self._packs = self._packs or run.size > self._limit // 2
+        self._packs = self._packs or run.size > self._limit // 4
 
     def _take_away(self, run: _Run) -> None:
         """Makes a part of the nodes that the run holds."""
         run.give_up_parts()
         # (in a packed part nodes stand a level deeper, which those below the document can't do)
         if self._packs and run is not self._stack[0]:
+            self._has_packed = True
             run.replace_packed(self._stored(f"document {{{part_of(run.items())}}}"))
         else:
             address = self._stored("document {" + run.constructors() + "}")
