@@ -15,6 +15,10 @@ from xqs.temporary import Temporary
 from xqs.values import events
 
 
+SMALL = mock.patch.multiple(packing, DEEPEST=2, LONGEST=120, SHORT=60, MOST_NODES=3)
+"""While little has room in a text."""
+
+
 def nested(depth: int, inner: str) -> str:
     """A node within so many elements."""
     return "element e {" * depth + inner + "}" * depth
@@ -47,9 +51,10 @@ class Packing(ServerTest):
             node = plain(Documents(seed).element(4))
             self.server.store("x", f"document {{element a {{{node}, {node}, {node}}}}}")
             text = self.server.query_text('doc("x")')
-            for few in ({"SHORT": 1_000}, {"DEEPEST": 2, "LONGEST": 120, "SHORT": 60, "MOST_NODES": 3}):
-                with self.subTest(seed=seed, few=few), mock.patch.multiple(packing, **few):
-                    self.assertEqual(self.stored_in_parts(text, 150), text)
+            with self.subTest(seed=seed):
+                self.assertEqual(self.stored_in_parts(text, 150), text)
+            with self.subTest(seed=seed, small=True), SMALL:
+                self.assertEqual(self.stored_in_parts(text, 150), text)
 
     def test_what_has_no_room_in_a_text(self) -> None:
         for content in (
@@ -92,7 +97,6 @@ class Packing(ServerTest):
         store_constructors(self.server, "x", f"document {{element t {{{records}}}}}")
         self.assertEqual(self.server.query('count(doc("x")//r[@n = string(.)])'), [40_000])
         self.assertEqual(self.server.list(), ["x"])
-
 
     def test_no_node_is_lost_where_the_texts_are_wrong(self) -> None:
         records = b"<r>1</r>" * 40_000

@@ -1,4 +1,4 @@
-"""A read writes nothing: documents over a reply are read in pieces that are found by their sizes."""
+"""A read writes nothing: documents over a reply are read in pieces that are found by sizes."""
 
 import threading
 import unittest
@@ -78,7 +78,8 @@ class Alone(ServerTest):
     def test_no_reply_is_refused_over_a_reply(self) -> None:
         rows = b"".join(b"<r n='%d'><a>%s</a><b/></r>" % (it, b"x" * (it % 2_800))
                         for it in range(12_000))
-        store_xml(self.server, "x", [b"<t><u>", rows, b"</u><v>", b"long " * 1_000_000, b"</v></t>"])
+        long = b"long " * 1_000_000
+        store_xml(self.server, "x", [b"<t><u>", rows, b"</u><v>", long, b"</v></t>"])
         refused: list[str] = []
         query_text = self.server.query_text
 

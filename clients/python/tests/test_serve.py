@@ -71,12 +71,14 @@ class Served(ServeTest):
         self.words[1] = "/bin/false"  # What would be started ends at once.
         xml = self.write("a.xml", "<a>1</a>")
         backup = self.folder / "x.backup"
-        for words, out in (
-                (["store", "a", xml], "stored\n"), (["query", 'count(doc("a"))'], "1\n"),
-                (["get", "a", "--xml"], None), (["list"], "a\n"),
-                (["load", xml.parent, "--as", "l"], ""), (["export", self.folder / "out"], ""),
-                (["backup", backup], ""), (["restore", backup, "--replace"], ""),
-                (["drop", "a"], ""), (["gc"], ""), (["shell", "-c", ".list"], "l/a.xml\n")):
+        commands: list[tuple[list[str | Path], str | None]] = [
+            (["store", "a", xml], "stored\n"), (["query", 'count(doc("a"))'], "1\n"),
+            (["get", "a", "--xml"], None), (["list"], "a\n"),
+            (["load", xml.parent, "--as", "l"], ""), (["export", self.folder / "out"], ""),
+            (["backup", backup], ""), (["restore", backup, "--replace"], ""),
+            (["drop", "a"], ""), (["gc"], ""), (["shell", "-c", ".list"], "l/a.xml\n"),
+        ]
+        for words, out in commands:
             status, shown, said = self.run_command(*words)
             self.assertEqual(status, 0, (words, said))
             if out is not None:
@@ -232,8 +234,9 @@ class Refused(ServeTest):
     def test_a_file_that_took_the_place_of_another(self) -> None:
         self.assertEqual(self.serve("--servers", "1").returncode, 0)
         self.path.rename(self.folder / "moved.db")
-        for make in (lambda: None, lambda: self.path.write_bytes(b"other")):
-            make()
+        for is_replaced in (False, True):
+            if is_replaced:
+                self.path.write_bytes(b"other")
             with self.assertRaisesRegex(NotThisFile, "is not the file any more that is served"):
                 connect(file_server(self.path))
         self.path.unlink()

@@ -126,7 +126,8 @@ def why_not_opened(command: Sequence[str]) -> str:
 def _advice(path: Path, starters: Sequence[Holder | None]) -> str:
     """What to do about those who hold a file."""
     if any(it is not None and _SERVE in it.words for it in starters):
-        return f"`xqs serve` opens or ends it at this moment, so ask again; `xqs stop {path}` ends it"
+        return ("`xqs serve` opens or ends it at this moment, so ask again; "
+                f"`xqs stop {path}` ends it")
     return f"end that, or ask through it (`xqs serve {path}` serves a file to many)"
 
 

@@ -21,7 +21,7 @@ DEEPEST = 12
 LONGEST = 9_000
 """So many characters a text has at most."""
 SHORT = 1_000
-"""Nodes are put into one text up to so many characters: to find a place in it goes by its length."""
+"""Nodes are put into one text up to so many characters: a look into it goes by its length."""
 MOST_NODES, LONGEST_NAME = 999, 99
 _COUNT, _HEAD = 3, 11
 _ELEMENT, _VALUED, TEXT, ATTRIBUTE, COMMENT, INSTRUCTION = 1, 2, 3, 4, 5, 6
