@@ -26,6 +26,7 @@ _CHARACTERS = (f"({_NODES} * {NODE_CHARACTERS} + string-length(string($n)) + "
                "sum($n/descendant-or-self::node()/@*/string-length(string(.))))")
 """About how many characters a node has when it is printed. (Comments and instructions aside: where
 they are long the reply is refused, and a part of it asked for.)"""
+_SIZES = f"({_NODES}, {_CHARACTERS})"
 _KINDS = {
     NodeKind.DOCUMENT: "self::document-node()",
     NodeKind.ELEMENT: "self::element()",
@@ -44,23 +45,33 @@ class Piece:
     nodes: int = 0
 
 
+def look(address: str) -> str:
+    """The query that gives a document that is short, and of another one its sizes."""
+    return q(f"let $n := doc($a) return if (count($n/descendant::node()) <= {FEW_NODES} and "
+             f"string-length(string($n)) <= {FEW_CHARACTERS}) then $n else {_SIZES}", a=address)
+
+
+def sizes_of(text: str) -> tuple[int, int] | None:
+    """How many nodes a document has, and about how many characters, where a look gave that."""
+    if text.startswith(NodeKind.DOCUMENT):
+        return None
+    nodes, characters = text.split(", ")
+    return int(nodes), int(characters)
+
+
 def first_look(client: Client, address: str) -> str | int:
     """The text of a document; how many nodes it has, where that is too long for a reply.
 
     Refused as FODC0002 where there is none.
     """
-    text = text_or_none(client, q(
-        f"let $n := doc($a) return if (count($n/descendant::node()) <= {FEW_NODES} and "
-        f"string-length(string($n)) <= {FEW_CHARACTERS}) then $n else ({_NODES}, {_CHARACTERS})",
-        a=address))
-    if text is not None and text.startswith(NodeKind.DOCUMENT):
+    text = text_or_none(client, look(address))
+    if text is None:  # It has a long comment, or the like.
+        return int(client.query_text(q(f"let $n := doc($a) return {_NODES}", a=address)))
+    sizes = sizes_of(text)
+    if sizes is None:
         return text
-    sizes = text or client.query_text(q(f"let $n := doc($a) return ({_NODES}, {_CHARACTERS})",
-                                        a=address))
-    nodes, characters = map(int, sizes.split(", "))
-    whole = None
-    if characters <= WHOLE and text is not None:
-        whole = text_or_none(client, q("doc($a)", a=address))
+    nodes, characters = sizes
+    whole = text_or_none(client, q("doc($a)", a=address)) if characters <= WHOLE else None
     return nodes if whole is None else whole
 
 
@@ -131,7 +142,7 @@ class Pieces:
     def _sizes(self, path: str, first: int, last: int) -> list[tuple[int, int]]:
         """Of each of some nodes how many it has, and about how many characters."""
         numbers = self._client.query(
-            f"for $n in {_positions(path, first, last)} return ({_NODES}, {_CHARACTERS})")
+            f"for $n in {_positions(path, first, last)} return {_SIZES}")
         sizes = [it for it in numbers if isinstance(it, int)]
         if len(sizes) != 2 * (last - first + 1):
             raise Changed(self._address)
