@@ -13,7 +13,7 @@ from unittest import mock
 
 from tests.serving import PATIENCE, SOURCES, children_of
 from tests.support import CommandTest, file_server, server_command
-from tests.test_leftovers import running, wait_until
+from tests.test_leftovers import running, take_signals, wait_until
 from xqs import NotConnected, aio, connect
 from xqs.endpoints import Command, UnixSocket
 from xqs.mux import split_command
@@ -174,7 +174,8 @@ class Ends(ServeTest):
         for number in (signal.SIGINT, signal.SIGTERM, signal.SIGKILL):
             with subprocess.Popen(
                     [sys.executable, "-m", "xqs", "serve", str(self.path), "--", str(script)],
-                    cwd=SOURCES, stderr=subprocess.DEVNULL, start_new_session=True) as process:
+                    cwd=SOURCES, stderr=subprocess.DEVNULL, start_new_session=True,
+                    preexec_fn=take_signals) as process:
                 wait_until(lambda: len(running(str(script))) >= 4, "nothing runs")
                 process.send_signal(number)
                 process.wait(PATIENCE)

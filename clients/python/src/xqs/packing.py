@@ -16,10 +16,15 @@ from typing import TypeAlias
 
 from xqs.values import quoted
 
-DEEPEST = 12
+DEEPEST = 8
 """So many elements stand within one another at most in a text."""
+HIGHEST = 60
+"""Nodes within so many elements at most are packed: the expression that makes them nests by itself,
+four times for each element that may stand within another one."""
 LONGEST = 9_000
 """So many characters a text has at most."""
+LEAST_PART = 100_000
+"""Parts of fewer bytes hold nodes: the expression that makes them of texts has some 4,000."""
 SHORT = 1_000
 """Nodes are put into one text up to so many characters: a look into it goes by its length."""
 MOST_NODES, LONGEST_NAME = 999, 99
@@ -99,8 +104,8 @@ def _elements(items: Iterable[tuple[str, Packed | None]]) -> Iterator[str]:
 def unpacked(addresses: Iterable[str]) -> str:
     """The expression that makes the nodes of parts again, one part after the other."""
     parts = ", ".join(f'doc("{it}")/*' for it in addresses)
-    return (f"for $p in ({parts}) return if ($p/self::n) then $p/node() else "
-            f"{_nodes(1, 'string($p)')}")
+    return (f"for $p in ({parts}) let $c0 := string($p) return if ($p/self::n) then $p/node() else "
+            f"{_nodes(1)}")
 
 
 def counted(document: str, nodes: int) -> str:
@@ -109,20 +114,20 @@ def counted(document: str, nodes: int) -> str:
             f"count($d//@*) = {nodes}) then $d else ()")
 
 
-def _nodes(level: int, text: str) -> str:
-    """The expression that makes the nodes of a list; within the deepest element is one more list,
-    which holds no other element with a list."""
-    s, i, h, n, c = (f"${it}{level}" for it in "sihnc")
-    below = _nodes(level + 1, c) if level <= DEEPEST else "()"
+def _nodes(level: int) -> str:
+    """The expression that makes the nodes of a list, whose text is that of the level above; within
+    the deepest element is one more list, which holds no other element with a list."""
+    text, i, h, n, c = f"$c{level - 1}", *(f"${it}{level}" for it in "ihnc")
+    below = _nodes(level + 1) if level <= DEEPEST else "()"
+    at, length = f"{h} idiv 10000 mod 10000", f"{h} idiv 100000000 mod 100"
     return (
-        f"(let {s} := {text} for {i} in 1 to xs:integer(substring({s}, 1, 3)) "
-        f"let {h} := xs:integer(substring({s}, 11 * {i} - 7, 11)), "
-        f"{n} := {h} idiv 100000000 mod 100, "
-        f"{c} := substring({s}, {h} idiv 10000 mod 10000 + {n}, {h} mod 10000) return "
-        f"if ({h} >= 30000000000 and {h} < 40000000000) then text {{{c}}} else "
-        f"let {n} := substring({s}, {h} idiv 10000 mod 10000, {n}) return "
+        f"for {i} in 1 to xs:integer(substring({text}, 1, 3)) "
+        f"let {h} := xs:integer(substring({text}, 11 * {i} - 7, 11)), "
+        f"{n} := substring({text}, {at}, {length}), "
+        f"{c} := substring({text}, {at} + {length}, {h} mod 10000) return "
         f"if ({h} < 20000000000) then element {{{n}}} {{{below}}} else "
         f"if ({h} < 30000000000) then element {{{n}}} {{text {{{c}}}}} else "
+        f"if ({h} < 40000000000) then text {{{c}}} else "
         f"if ({h} < 50000000000) then attribute {{{n}}} {{{c}}} else "
         f"if ({h} < 60000000000) then comment {{{c}}} else "
-        f"processing-instruction {{{n}}} {{{c}}})")
+        f"processing-instruction {{{n}}} {{{c}}}")

@@ -268,13 +268,15 @@ class DocumentText:
         if run.size + size > self._limit and run.size:
             self._take_away(run)
         run.add(text, size, node)
-        self._packs = self._packs or run.size > self._limit // 4
+        if not self._packs and run.size > self._limit // 4:
+            self._packs = self._limit >= packing.LEAST_PART
 
     def _take_away(self, run: _Run) -> None:
         """Makes a part of the nodes that the run holds."""
         run.give_up_parts()
         # (in a packed part nodes stand a level deeper, which those below the document can't do)
-        if self._packs and run is not self._stack[0]:
+        is_below = run is not self._stack[0]
+        if self._packs and is_below and len(self._stack) <= packing.HIGHEST:
             self._has_packed = True
             run.replace_packed(self._stored(f"document {{{part_of(run.items())}}}"))
         else:
