@@ -65,7 +65,8 @@ class Packing(ServerTest):
             "element a {" + ", ".join(["element b {}"] * 1_000) + "}",
             "element a {" + ", ".join(["element b {}"] * 999) + "}",
             'element a {text {"' + "t" * 9_000 + '"}}', nested(8, "comment {\"c\"}"),
-            nested(9, 'text {"t"}'), nested(7, "element e {attribute a {\"\"}}"), nested(98, 'text {"t"}'), nested(97, "element e {}"),
+            nested(9, 'text {"t"}'), nested(7, 'element e {attribute a {""}}'),
+            nested(98, 'text {"t"}'), nested(97, "element e {}"),
             'processing-instruction p {"q"}, element a {comment {""}}, text {"&#xD;"}',
         ):
             with self.subTest(content[:60]):
