@@ -111,7 +111,9 @@ def why_not_opened(command: Sequence[str]) -> str:
         starters = [starter_of(it) for it in found]
         by = [f"{it}{f', started by {starter}' if starter else ''}"
               for it, starter in zip(found, starters, strict=True)]
-        return f"{path} is in use by {' and '.join(by)}: {_advice(path, starters)}"
+        served = [file_of(it.words) for it, starter in zip(found, starters, strict=True)
+                  if starter is not None and _SERVE in starter.words]
+        return f"{path} is in use by {' and '.join(by)}: {_advice(path, served)}"
     folder = path.parent
     if not folder.is_dir():
         return f"there is no folder {folder}"
@@ -123,11 +125,11 @@ def why_not_opened(command: Sequence[str]) -> str:
     return ""
 
 
-def _advice(path: Path, starters: Sequence[Holder | None]) -> str:
-    """What to do about those who hold a file."""
-    if any(it is not None and _SERVE in it.words for it in starters):
-        return ("`xqs serve` opens or ends it at this moment, so ask again; "
-                f"`xqs stop {path}` ends it")
+def _advice(path: Path, served: Sequence[Path | None]) -> str:
+    """What to do about those who hold a file, of which some serve it under these names."""
+    if served:
+        return ("`xqs serve` opens or ends it at this moment, so ask again, or has it by another "
+                f"name; `xqs stop {served[0] or path}` ends it")
     return f"end that, or ask through it (`xqs serve {path}` serves a file to many)"
 
 
