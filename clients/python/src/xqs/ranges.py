@@ -16,17 +16,19 @@ FEW_NODES, FEW_CHARACTERS = 20_000, 500_000
 """A document with no more than these is asked for as a whole at once."""
 WHOLE = 10_000_000
 """One of about so many characters, when it is printed, is asked for as a whole."""
-AT_ONCE = 5_000
-"""The sizes of so many children are asked for at once."""
+AT_ONCE = 50_000
+"""The sizes of so many children are asked for at once: to find a range the server goes over all."""
 NODE_CHARACTERS = 40
 """So many characters a node is taken to have, besides its text."""
 TOO_LONG = "prof:REPLY"
-_NODES = "(count($n/descendant-or-self::node()) + count($n/descendant-or-self::node()/@*))"
-_CHARACTERS = (f"({_NODES} * {NODE_CHARACTERS} + string-length(string($n)) + "
-               "sum($n/descendant-or-self::node()/@*/string-length(string(.))))")
-"""About how many characters a node has when it is printed. (Comments and instructions aside: where
-they are long the reply is refused, and a part of it asked for.)"""
-_SIZES = f"({_NODES}, {_CHARACTERS})"
+_SIZES = (
+    "(let $below := $n/descendant-or-self::node(), $attributes := $below/@*, "
+    "$nodes := count($below) + count($attributes) return ($nodes, "
+    f"$nodes * {NODE_CHARACTERS} + string-length(string($n)) + "
+    "string-length(string-join($attributes))))")
+"""How many nodes there are in `$n`, and about how many characters it has when it is printed.
+(Comments and instructions aside: where they are long the reply is refused, and a part of it asked
+for.)"""
 _KINDS = {
     NodeKind.DOCUMENT: "self::document-node()",
     NodeKind.ELEMENT: "self::element()",
@@ -66,7 +68,8 @@ def first_look(client: Client, address: str) -> str | int:
     """
     text = text_or_none(client, look(address))
     if text is None:  # It has a long comment, or the like.
-        return int(client.query_text(q(f"let $n := doc($a) return {_NODES}", a=address)))
+        sizes_alone = client.query_text(q(f"let $n := doc($a) return {_SIZES}", a=address))
+        return int(sizes_alone.partition(",")[0])
     sizes = sizes_of(text)
     if sizes is None:
         return text
