@@ -1,8 +1,8 @@
 """How often documents were changed, as far as one program sees it: by that a client knows whether a
 document stayed as it was while it was read in parts.
 
-Addresses share a bounded number of counts. So a token may be another one although the document is the
-same, and never the same one although the document may be another.
+Addresses share a bounded number of counts. So a token may be another one although the document is
+the same, and never the same one although the document may be another.
 """
 
 import os
