@@ -6,8 +6,8 @@ from unittest import mock
 
 from tests.support import CommandTest, ServerTest
 from tests.test_constructors_in import large
-from xqs import Client, switches
-from xqs.progress import NODES, Progress
+from xqs import ranges, switches
+from xqs.progress import Progress
 from xqs.stores import store_file
 from xqs.xml_in import XmlChoices, XmlFault
 from xqs.xml_judge import judge_xml
@@ -33,18 +33,21 @@ class Lines(unittest.TestCase):
         progress = Progress(4, 0, io.StringIO())
         progress.step(10)
         self.assertRegex(progress.line(), r"\A1/4 \[#{5}\.{15}\] [0-9.]+ MB/s, \d+:\d\d left\Z")
-        progress.begin(0, 2_000, NODES)
-        progress.reach(1_000)
+        progress.reach_nodes(1, 2)
+        self.assertRegex(progress.line(), r"\A1/4 \[#{7}\.{13}\] ")
+        progress.begin(0, 0)
+        progress.reach_nodes(1_000, 2_000)
         self.assertRegex(progress.line(), r"\A\[#{10}\.{10}\] [0-9,]+ nodes/s, \d+:\d\d left\Z")
+        progress.begin(0, 1_000, passes=2)
+        progress.reach(1_000)
+        self.assertRegex(progress.line(), r"\A\[#{10}\.{10}\] [0-9.]+ MB/s, \d+:\d\d left\Z")
         progress.begin(0, 0)
         progress.reach(1_000)
         self.assertRegex(progress.line(), r"\A\[\.{20}\] [0-9.]+ MB/s, time left unknown\Z")
 
 
-def short_text(client: Client, query: str) -> str | None:
-    """A reply that is not long, as if a reply had no room for more."""
-    text = client.query_text(query)
-    return text if len(text) < 100_000 else None
+IN_PIECES = mock.patch.multiple(ranges, PIECE=200_000, FEW_NODES=10, WHOLE=1_000)
+"""While documents are read in pieces which a reply would have room for."""
 
 
 class Bars(CommandTest):
@@ -65,13 +68,26 @@ class Bars(CommandTest):
         self.assertRegex(drawn, rf"(?s){bar}{left}.*joining \d+ parts")
         self.assertRegex(self.drawn("store", "b", str(query)), bar + left)
         self.assertRegex(self.drawn("load", str(self.folder / "in"), "--as", "l"), "1/1 " + bar)
-        with mock.patch("xqs.fetch._text_or_none", short_text):
+        with IN_PIECES:
             self.assertRegex(self.drawn("get", "a"), r"\[#+\.*\] [0-9,]+ nodes/s, \d+:\d\d left")
         self.assertRegex(self.drawn("export", str(self.folder / "x")), "3/3 " + bar)
         backup = str(self.folder / "x.backup")
         self.assertRegex(self.drawn("backup", backup), rf"(?s)3/3 {bar}{left}.*3/3 {bar}{left}")
         self.words[-1] = str(self.folder / "y.db")
         self.assertRegex(self.drawn("restore", backup), f"3/3 {bar}{left}")
+
+    def test_a_bar_goes_on_within_one_document(self) -> None:
+        books = "".join(f"<b n='{it}'>{'t' * 900}</b>" for it in range(5_000))
+        self.write("a.xml", f"<a>{books}</a>")
+        within = r"0/1 \[#+\.+\] [0-9.]+ MB/s, \d+:\d\d left"
+        drawn = self.drawn("load", str(self.folder / "in"))
+        self.assertRegex(drawn, rf"(?s){within}.*joining \d+ parts.*1/1 \[#{{20}}\]")
+        with IN_PIECES:
+            self.assertRegex(self.drawn("export", str(self.folder / "x")), within)
+            backup = str(self.folder / "x.backup")
+            self.assertRegex(self.drawn("backup", backup), rf"(?s){within}.*1/1.*{within}.*1/1")
+            self.words[-1] = str(self.folder / "y.db")
+            self.assertRegex(self.drawn("restore", backup), rf"(?s){within}.*joining.*{within}")
 
 
 class Judged(ServerTest):

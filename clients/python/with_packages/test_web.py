@@ -27,6 +27,12 @@ from webs import (
 )
 
 
+def stores(web: RunningWeb) -> list[str]:
+    """The figures of stores and drops."""
+    lines = web.ask("GET", "/metrics").body.splitlines()
+    return [it for it in lines if 'kind="store"' in it or 'kind="drop"' in it]
+
+
 class Folders(WebTest):
     """Queries over the documents of a folder."""
 
@@ -131,6 +137,17 @@ class Documents(WebTest):
         self.check(self.web.ask("HEAD", "/rest/huge"), 200)
         self.check(self.web.ask("GET", "/rest", Accept=XQUERY), 200, '"huge"')
         self.check_refused(self.web.ask("GET", asked('doc("huge")')), 413, "prof:REPLY")
+
+    def test_a_read_of_any_length_stores_nothing(self) -> None:
+        value = "a long text " * 90_000
+        text = "<a>" + "".join(f'<b n="{n}">{value}</b>' for n in range(16)) + "</a>"
+        with RunningMux() as mux:
+            with RunningWeb(place=mux.place) as web:
+                self.check(web.put("huge", text), 201)
+                before = stores(web)
+                self.assertTrue(web.ask("GET", "/rest/huge").body == text)
+                self.assertEqual(stores(web), before)
+            self.assertNotIn("refused prof:REPLY", mux.said())
 
     def test_xml_that_is_refused(self) -> None:
         for text in ("<a>", "", "no XML", "<a/><b/>", BOMB):
@@ -450,6 +467,19 @@ class Ends(WebTest):
             self.assertEqual(web.ask("GET", "/metrics", Host="evil.example").status, 403)
             web.ask("GET", asked("cuont(1)"))
             web.wait_for("refused XPST0017")
+
+    def test_a_file_that_is_served_is_asked_there(self) -> None:
+        path = self.folder / "x.db"
+
+        def xqs(*words: str) -> int:
+            return subprocess.run([sys.executable, "-m", "xqs", *words], cwd=SOURCES, timeout=60,
+                                  stderr=subprocess.DEVNULL, check=False).returncode
+
+        self.assertEqual(xqs("serve", "--servers", "1", str(path), "--", *server_command()), 0)
+        self.addCleanup(xqs, "stop", str(path))
+        with RunningWeb("--file", str(path), place="/bin/false") as web:
+            self.check(web.put("a", BOOK), 201)
+            self.check(web.ask("GET", "/rest/a"), 200, BOOK)
 
     def test_it_stands_before_a_multiplexer(self) -> None:
         with RunningMux() as mux, RunningWeb(place=mux.place) as web:

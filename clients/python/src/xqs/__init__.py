@@ -9,6 +9,7 @@
 from xqs.bounds import NoBound
 from xqs.client import Client, connect
 from xqs.errors import (
+    Changed,
     Closed,
     Lost,
     Misspelt,
@@ -31,6 +32,7 @@ from xqs.values import Item, Node, NodeKind, Untyped, items, quoted, values
 from xqs.version import __version__
 
 __all__ = [
+    "Changed",
     "Client",
     "Closed",
     "FrameFault",

@@ -23,6 +23,7 @@ from xqs.requests import (
     query_of,
     store_of,
 )
+from xqs.served import asked_at
 from xqs.temporary import check_lasting
 from xqs.values import Item, items, values
 from xqs.xml_out import KEEP
@@ -129,7 +130,7 @@ async def connect(
 ) -> AsyncClient:
     """Connects to a server; arguments and errors are those of `client.connect`."""
     bounds = bounds_for(timeout, memory)
-    place = endpoint(where)
+    place = await asyncio.to_thread(asked_at, endpoint(where))
     try:
         async with asyncio.timeout(bounds.seconds):
             stream = await open_async_stream(place, bounds)

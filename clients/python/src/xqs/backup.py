@@ -10,7 +10,7 @@ import hashlib
 import os
 import sys
 import tempfile
-from collections.abc import Iterator, Sequence
+from collections.abc import Callable, Iterator, Sequence
 from dataclasses import dataclass
 from pathlib import Path
 from typing import IO, BinaryIO
@@ -43,10 +43,22 @@ class Entry:
     size: int
 
 
-def digest_of(client: Client, address: str, is_still: bool = False) -> str:
-    """The digest of a document, whatever its length; `is_still` as for `back_up`."""
-    digest = hashlib.sha256()
-    write_text(client, address, lambda text: digest.update(text.encode()), is_still)
+def digest_of(
+    client: Client, address: str, is_still: bool = False,
+    read: Callable[[int], object] = lambda _: None
+) -> str:
+    """The digest of a document, whatever its length; `is_still` as for `back_up`. `read` is told
+    how many bytes have been read."""
+    digest, count = hashlib.sha256(), 0
+
+    def write(text: str) -> None:
+        nonlocal count
+        data = text.encode()
+        digest.update(data)
+        count += len(data)
+        read(count)
+
+    write_text(client, address, write, is_still)
     return digest.hexdigest()
 
 
@@ -64,7 +76,7 @@ def back_up(
     progress.begin(len(addresses), 0)
     for address in addresses:
         before = file.tell()
-        _write_entry(client, address, file, is_still)
+        _write_entry(client, address, file, is_still, progress)
         progress.step(file.tell() - before)
     file.write(f"end {len(addresses)}\n".encode())
     return len(addresses)
@@ -74,7 +86,9 @@ def _addresses(client: Client, is_still: bool) -> list[str]:
     return [it for it in client.list() if is_still or not is_temporary(it)]
 
 
-def _write_entry(client: Client, address: str, file: BinaryIO, is_still: bool) -> None:
+def _write_entry(
+    client: Client, address: str, file: BinaryIO, is_still: bool, progress: Progress
+) -> None:
     digest = hashlib.sha256()
     with tempfile.SpooledTemporaryFile(_IN_MEMORY) as held:
 
@@ -82,8 +96,9 @@ def _write_entry(client: Client, address: str, file: BinaryIO, is_still: bool) -
             data = text.encode()
             digest.update(data)
             held.write(data)
+            progress.reach(held.tell())
 
-        write_text(client, address, write, is_still)
+        write_text(client, address, write, is_still, progress)
         file.write(f"document {held.tell()} {digest.hexdigest()} {address}\n".encode())
         held.seek(0)
         _copy(held, file)
@@ -145,14 +160,20 @@ def restore(
             "them"
         )
     progress = progress or silent()
-    progress.begin(len(wanted), sum(it.size for it in wanted))
+    progress.begin(len(wanted), sum(it.size for it in wanted), passes=2)
     for entry in wanted:
-        file.seek(entry.start)
-        store_again(client, entry.address, file.read(entry.size).decode())
-        if digest_of(client, entry.address) != entry.digest:
-            raise NoBackup(f"the document {entry.address} does not read back as it was")
-        progress.step(entry.size)
+        _restore_entry(client, file, entry, progress)
+        progress.step(2 * entry.size)
     return len(wanted)
+
+
+def _restore_entry(client: Client, file: BinaryIO, entry: Entry, progress: Progress) -> None:
+    """Stores a document, and reads it back. NoBackup."""
+    file.seek(entry.start)
+    store_again(client, entry.address, file.read(entry.size).decode(), progress)
+    digest = digest_of(client, entry.address, read=lambda it: progress.reach(entry.size + it))
+    if digest != entry.digest:
+        raise NoBackup(f"the document {entry.address} does not read back as it was")
 
 
 def check_against(
@@ -166,7 +187,7 @@ def check_against(
     progress.begin(len(held), sum(it.size for it in held.values()))
     changed: list[str] = []
     for address in held.keys() & now:
-        if digest_of(client, address, is_still) != held[address].digest:
+        if digest_of(client, address, is_still, progress.reach) != held[address].digest:
             changed.append(address)
         progress.step(held[address].size)
     return sorted(changed) + sorted(held.keys() ^ now)

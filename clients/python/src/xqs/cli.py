@@ -63,6 +63,8 @@ COMMANDS = {
     "restore": Entry("xqs.backup:restore_main", "store the documents of a backup", 1),
     "gc": Entry("xqs.gc:main", "drop temporary documents that a crash left"),
     "shell": Entry("xqs.shell:main", "ask queries by hand"),
+    "serve": Entry("xqs.serve:main", "serve one file in the background", 1, has_command=True),
+    "stop": Entry("xqs.serve:stop_main", "end what serves a file in the background", 1),
     "mux": Entry("xqs.mux:main", "one server or several for many clients", has_command=True),
     "status": Entry("xqs.mux_control:status_main", "how a multiplexer that runs does", 1),
     "node": Entry(
@@ -83,9 +85,9 @@ def checkout_server() -> Path | None:
     return serve if serve.exists() else None
 
 
-def connection_options(bounded: bool = True) -> argparse.ArgumentParser:
+def connection_options(bounded: bool = True, file: bool = True) -> argparse.ArgumentParser:
     """The options that say where the server is, as a parent of a command's parser; with the bounds
-    of a request, unless the command has its own."""
+    of a request and the file of the documents, unless the command has its own."""
     options = argparse.ArgumentParser(add_help=False)
     group = options.add_argument_group("the server")
     group.add_argument(
@@ -95,9 +97,11 @@ def connection_options(bounded: bool = True) -> argparse.ArgumentParser:
         f"else ${SERVER_VARIABLE}, else ./serve of the checkout, or the installed "
         f"{INSTALLED_SERVER}",
     )
-    group.add_argument(
-        "--file", metavar="PATH", help="the file of the documents, where a command is started"
-    )
+    if file:
+        group.add_argument(
+            "--file", metavar="PATH", help="the file of the documents, which is asked for where "
+            "`xqs serve` serves it, or else with the command that is started"
+        )
     if bounded:
         bounds.add_options(options)
     return options

@@ -4,9 +4,10 @@ import time
 from collections.abc import Iterator
 from types import TracebackType
 
+from xqs import control
 from xqs.bounds import SECONDS, Bounds, half_of_memory
 from xqs.endings import Origin
-from xqs.endpoints import Where, endpoint
+from xqs.endpoints import Command, Endpoint, Where, endpoint
 from xqs.errors import TimedOut, XqError
 from xqs.link import Link
 from xqs.prefixed import asked, told
@@ -22,6 +23,7 @@ from xqs.requests import (
     query_of,
     store_of,
 )
+from xqs.served import asked_at
 from xqs.streams import Stream, open_stream
 from xqs.temporary import check_lasting
 from xqs.values import Item, items, values
@@ -56,6 +58,29 @@ class Client:
     def __repr__(self) -> str:
         place = f"to {self._origin.place}" if self._origin else "over a stream"
         return f"<xqs.Client {place}{'' if self._link.stream else ', ended'}>"
+
+    def state_of(self, address: str) -> str | None:
+        """What stays the same as long as nobody changes the document at the address; None where
+        that can't be told, as at a socket behind which there is no multiplexer of this user's."""
+        if isinstance(self.place, Command):
+            return self._link.changes.token(address.encode())
+        if self.place is None:
+            return None
+        try:
+            [token] = control.ask(str(self.place), f"changes {address}")
+        except (XqError, OSError, ValueError):
+            return None
+        return token
+
+    @property
+    def has_server(self) -> bool:
+        """Whether the server is one that was started here, which nobody else can ask."""
+        return isinstance(self.place, Command)
+
+    @property
+    def place(self) -> Endpoint | None:
+        """Where the server is that is asked; None of a client over a stream of its caller's."""
+        return self._origin.place if self._origin else None
 
     def request_later(self, request: Request) -> TextFuture:
         """Sends a request; the future gives the text of its reply.
@@ -190,13 +215,15 @@ def connect(
 ) -> Client:
     """Connects to a server: `unix:PATH`, `tcp:PORT`, `tcp:HOST:PORT`, or a command to start.
 
-    A command is one text, as a shell reads it, or a list of words. `timeout` is how many seconds
-    the server may be at one request, `memory` how many bytes a server that is started may have, by
+    A command is one text, as a shell reads it, or a list of words; where it names a file that `xqs
+    serve` serves, that one is asked, and nothing is started. `timeout` is how many seconds the
+    server may be at one request, `memory` how many bytes a server that is started may have, by
     default half of the machine's; 0 is any. NotConnected (an OSError) where there is nothing to
-    connect to, NoPlace (a ValueError) where `where` is nothing of the kind.
+    connect to, or what listens beside the file serves another one, NoPlace (a ValueError) where
+    `where` is nothing of the kind.
     """
     bounds = bounds_for(timeout, memory)
-    place = endpoint(where)
+    place = asked_at(endpoint(where))
     stream = open_stream(place, bounds, bounds.seconds)
     return Client(stream, Origin(place, bounds), bounds.seconds)
 

@@ -9,6 +9,7 @@ import re
 from collections.abc import Callable, Iterator
 
 from xqs.faults import PlacedFault, line_and_column
+from xqs.queries import NOT_XML
 from xqs.tokens import NAME, comment_end
 from xqs.values import PARENTS, Close, Event, Leaf, NodeKind, Open
 from xqs.xml_names import NAMESPACE, NameFault, Names, incoming
@@ -32,13 +33,15 @@ NOT_ONE = "what is to be stored is not exactly one document"
 
 
 class _Parent:
-    """A constructor that is open; `strings` are those that stand side by side in it now."""
+    """A constructor that is open; `strings` are those that stand side by side in it now, `names`
+    those of its attributes."""
 
-    __slots__ = ("kind", "name", "strings", "has_content")
+    __slots__ = ("kind", "name", "strings", "names", "has_content")
 
     def __init__(self, kind: NodeKind, name: str) -> None:
         self.kind, self.name = kind, name
         self.strings: list[str] = []
+        self.names: set[str] = set()
         self.has_content = False
 
 
@@ -140,6 +143,12 @@ class ConstructorReader:
             raise self.fault("a document has no attributes")
         elif parent.has_content:
             raise self.fault("an attribute stands after other content")
+        elif name in parent.names:
+            raise self.fault(f"the element has two attributes called {name}")
+        else:
+            parent.names.add(name)
+        if why := _why_no_value(kind, name, value):
+            raise self.fault(why)
         self._events.append(Leaf(kind, name, value))
 
     def _close(self, _: re.Match[str]) -> None:
@@ -190,6 +199,8 @@ class ConstructorReader:
             text = text.replace(quote * 2, quote)
         if "&" in text:
             text = _REFERENCE.sub(self._character, text)
+        if NOT_XML.search(text):
+            raise self.fault("a string has a character that XML doesn't have")
         self._at = found.start()
         return text
 
@@ -201,3 +212,14 @@ class ConstructorReader:
         if not 0 <= number < 0x110000 or 0xD800 <= number < 0xE000:
             raise self.fault("a string has an & that begins no reference to a character")
         return chr(number)
+
+
+def _why_no_value(kind: NodeKind, name: str, value: str) -> str:
+    """Why a node can't have this name or value; empty where it can."""
+    if kind is NodeKind.COMMENT and ("--" in value or value.endswith("-")):
+        return "a comment holds -- or ends in -"
+    if kind is NodeKind.INSTRUCTION and "?>" in value:
+        return "a processing instruction holds ?>"
+    if kind is NodeKind.INSTRUCTION and name.lower() == "xml":
+        return "a processing instruction is called xml"
+    return ""

@@ -48,6 +48,13 @@ class ConstructorWriter:
         elif isinstance(event, Atom):
             self.write(printed_atom(event.value))
 
+    def printed(self, text: str) -> None:
+        """Writes items as the server has printed them, at least one; of nodes none is a text that
+        goes on with what was written before."""
+        self._end_text()
+        self._comma()
+        self.write(text)
+
     def _text(self, value: str) -> None:
         if not self._in_text:
             self._comma()

@@ -1,8 +1,9 @@
 """How a multiplexer that runs is asked how it does, and given another program.
 
 Beside the place where clients connect it has a socket of its own, which its owner alone can open.
-A request is one line: `status`, `metrics`, or `upgrade` and the words of a command as JSON. The
-answer is lines; the last one is `done`, or `refused` and why.
+A request is one line: `status`, `metrics`, `process`, `file`, `stop`, `changes` and an address, or
+`upgrade` and the words of a command as JSON. The answer is lines; the last one is `done`, or
+`refused` and why.
 """
 
 import asyncio

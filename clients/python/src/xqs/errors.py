@@ -112,6 +112,13 @@ class NotStarted(Closed):
     """A server that was started here ended before its first reply; nothing was carried out."""
 
 
+class Changed(XqError):
+    """A document was changed while it was read in pieces, which are of no one moment then."""
+
+    def __init__(self, address: str) -> None:
+        super().__init__(f"the document at {address} was changed while it was read; read it again")
+
+
 class TimedOut(XqError, TimeoutError):
     """A request took longer than it may, or its reply was awaited for longer than was said."""
 

@@ -55,6 +55,7 @@ class Exporter:
         self._progress = progress or silent()
         self._form, self._names, self._force = form, names, force
         self._taken: set[Path] = set()
+        self._written = 0
 
     @property
     def count(self) -> int:
@@ -69,11 +70,12 @@ class Exporter:
         wanted = [it for it in known if it.startswith(prefix) and not is_temporary(it)]
         self._progress.begin(len(wanted), 0)
         for address in wanted:
+            self._written = 0
             try:
                 self.export(address, prefix)
             except (NoPath, NotXml, OSError, ReplyError) as error:
                 refused[address] = str(error)
-            self._progress.step(0, address in refused)
+            self._progress.step(self._written, address in refused)
         return refused
 
     def file_of(self, address: str, prefix: str) -> Path:
@@ -93,16 +95,15 @@ class Exporter:
         file = self.file_of(address, prefix)
         with written(file) as out:
             write = self._counted(out.write) if self._progress.draws else out.write
-            self._write(document_events(self._client, address), write)
+            self._write(document_events(self._client, address, self._progress), write)
         self._taken.add(file)
         return file
 
     def _counted(self, write: Callable[[str], object]) -> Callable[[str], object]:
-        progress = self._progress
-
         def counted(text: str) -> None:
             write(text)
-            progress.reach(progress.bytes + len(text))
+            self._written += len(text)
+            self._progress.reach(self._written)
 
         return counted
 

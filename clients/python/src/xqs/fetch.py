@@ -1,77 +1,159 @@
-"""Documents of any length, read as events.
+"""Documents of any length, read as events. A read stores nothing, where that can be had.
 
-A document whose text fits a reply comes as one. A larger one is copied under a temporary address,
-so that all of it is of one moment, and asked for in parts: children by ranges of their positions,
-long texts by ranges of their characters.
+A document whose text fits a reply comes as one. A larger one is asked for in pieces (`ranges`), all
+of which have to be of one moment:
+
+- A server that was started here nobody else can ask: it is read where it stands.
+- `xqs mux` and `xqs web` tell whether a document was changed meanwhile. The pieces are held back
+  until that is known, and asked for once more where it was.
+- Elsewhere, and where a document is changed again and again, a copy under a temporary address is
+  read.
 """
 
-from collections.abc import Callable, Iterator
+import pickle
+import tempfile
+from collections.abc import Callable, Iterable, Iterator
 from contextlib import contextmanager, suppress
+from typing import cast
 
 from xqs.client import Client
-from xqs.constructors import write_constructors
-from xqs.errors import Refused, XqError
-from xqs.progress import NODES, Progress
+from xqs.constructors import ConstructorWriter
+from xqs.errors import Changed, XqError
+from xqs.progress import Progress, silent
 from xqs.queries import q
+from xqs.ranges import Piece, Pieces, first_look
 from xqs.requests import store_of
 from xqs.temporary import Temporary
-from xqs.values import Close, Event, Leaf, NodeKind, Open, events
+from xqs.values import Event, events
 
-TEXT_PIECE = 3_000_000
-"""So many characters of a text are asked for at once; each takes five bytes at most."""
-_TOO_LONG = "prof:REPLY"
-_BETWEEN = 1_000
-"""So many nodes lie between two looks at the time, for the progress."""
+TRIES = 3
+"""So often a document that is changed meanwhile is read in pieces, before a copy is."""
+HELD = 32_000_000
+"""So many bytes of pieces are held back in memory, more on the disk."""
 
 
 def document_events(
     client: Client, address: str, progress: Progress | None = None
 ) -> Iterator[Event]:
-    """The events of a document, a long text as several; Refused as FODC0002 where there is none.
+    """The events of a document, a long text as several; Refused as FODC0002 where there is none,
+    Changed where another thread of this client changes it meanwhile.
 
-    Where it comes in parts, `progress` goes by its nodes.
+    Where it comes in pieces, `progress` goes by its nodes.
     """
-    text = _text_or_none(client, q("doc($a)", a=address))
-    if text is not None:
-        yield from events(text)
-        return
-    with _copied(client, address) as copy:
-        steps = _Large(client).node(f'doc("{copy}")')
-        yield from _followed(client, copy, steps, progress) if progress else steps
-
-
-def _followed(
-    client: Client, copy: str, steps: Iterator[Event], progress: Progress
-) -> Iterator[Event]:
-    """The events, with what is told of them."""
-    count = 'count($d/descendant-or-self::node()) + count($d//@*)'
-    [nodes] = client.query(f'let $d := doc("{copy}") return {count}')
-    assert isinstance(nodes, int)
-    progress.begin(0, nodes, NODES)
-    seen = 0
-    for event in steps:
-        seen += not isinstance(event, Close)
-        if seen % _BETWEEN == 0:
-            progress.reach(seen)
-        yield event
+    for piece in _pieces(client, address, progress):
+        if isinstance(piece.part, str):
+            yield from events(piece.part)
+        else:
+            yield piece.part
 
 
 def write_text(
-    client: Client, address: str, write: Callable[[str], object], is_still: bool = False
+    client: Client, address: str, write: Callable[[str], object], is_still: bool = False,
+    progress: Progress | None = None,
 ) -> None:
     """Writes the constructor of a document, as the server prints it, in pieces where it is long.
 
     With `is_still` nobody stores or drops meanwhile, and the document is read where it stands.
-    Refused as FODC0002 where there is none.
+    Errors and `progress` are those of `document_events`.
     """
-    text = _text_or_none(client, q("doc($a)", a=address))
-    if text is not None:
-        write(text)
-    elif is_still:
-        write_constructors(_Large(client).node(f'doc("{address}")'), write)
+    writer = ConstructorWriter(write)
+    for piece in _pieces(client, address, progress, is_still):
+        if isinstance(piece.part, str):
+            writer.printed(piece.part)
+        else:
+            writer.event(piece.part)
+
+
+def _pieces(
+    client: Client, address: str, progress: Progress | None, is_still: bool = False
+) -> Iterator[Piece]:
+    """The pieces of a document; one where a reply has room for it."""
+    found = first_look(client, address)
+    if isinstance(found, str):
+        yield Piece(found)
+        return
+    told = _Told(progress or silent(), found)
+    if is_still:
+        yield from told.read(Pieces(client, address))
+    elif client.has_server:
+        yield from told.read(_watched(client, address))
     else:
-        with _copied(client, address) as copy:
-            write_constructors(_Large(client).node(f'doc("{copy}")'), write)
+        yield from _of_one_moment(client, address, told)
+
+
+class _Told:
+    """What is told of the nodes of a document that comes in pieces."""
+
+    def __init__(self, progress: Progress, nodes: int) -> None:
+        self._progress, self._nodes = progress, max(nodes, 1)
+
+    def read(self, pieces: Iterable[Piece], begin: float = 0, end: float = 1) -> Iterator[Piece]:
+        """The pieces; with all of them, from one share of what is to be done to another is done."""
+        nodes = 0
+        for piece in pieces:
+            nodes = min(nodes + piece.nodes, self._nodes)
+            share = begin + (end - begin) * nodes / self._nodes
+            self._progress.reach_nodes(int(share * self._nodes), self._nodes)
+            yield piece
+
+
+def _watched(client: Client, address: str) -> Iterator[Piece]:
+    """The pieces of a document that no other client can change; Changed where this one did."""
+    before = client.state_of(address)
+    try:
+        yield from Pieces(client, address)
+    except XqError as error:
+        if client.state_of(address) != before:
+            raise Changed(address) from error
+        raise
+    if client.state_of(address) != before:
+        raise Changed(address)
+
+
+def _of_one_moment(client: Client, address: str, told: _Told) -> Iterator[Piece]:
+    """The pieces of a document that others may change meanwhile."""
+    for _ in range(TRIES):
+        before = client.state_of(address)
+        if before is None:
+            break
+        with _Held() as held:
+            if held.holds_all(client, address, before, told):
+                yield from told.read(held.pieces(), begin=0.5)
+                return
+    with _copied(client, address) as copy:
+        yield from told.read(Pieces(client, copy))
+
+
+class _Held:
+    """Pieces that are held back, in memory and on the disk."""
+
+    def __init__(self) -> None:
+        self._file = tempfile.SpooledTemporaryFile(HELD)
+        self._count = 0
+
+    def __enter__(self) -> "_Held":
+        return self
+
+    def __exit__(self, *_: object) -> None:
+        self._file.close()
+
+    def holds_all(self, client: Client, address: str, before: str, told: _Told) -> bool:
+        """Reads a document; whether it is as it was before."""
+        try:
+            for piece in told.read(Pieces(client, address), end=0.5):
+                pickle.dump(piece, self._file)
+                self._count += 1
+        except XqError:
+            if client.state_of(address) == before:
+                raise
+            return False
+        return client.state_of(address) == before
+
+    def pieces(self) -> Iterator[Piece]:
+        """All of them, in their order."""
+        self._file.seek(0)
+        for _ in range(self._count):
+            yield cast(Piece, pickle.load(self._file))
 
 
 @contextmanager
@@ -83,85 +165,3 @@ def _copied(client: Client, address: str) -> Iterator[str]:
     finally:
         with suppress(XqError):
             client.drop(copy)
-
-
-def _text_or_none(client: Client, query: str) -> str | None:
-    """The reply's text; None where it would be too long."""
-    try:
-        return client.query_text(query)
-    except Refused as error:
-        if error.code != _TOO_LONG:
-            raise
-        return None
-
-
-class _Large:
-    """Reads nodes whose text may be longer than a reply; each is named by an expression."""
-
-    def __init__(self, client: Client) -> None:
-        self._client = client
-
-    def node(self, path: str) -> Iterator[Event]:
-        """The events of one node."""
-        text = _text_or_none(self._client, path)
-        if text is not None:
-            yield from events(text)
-            return
-        kind, name = self._head(path)
-        if kind not in (NodeKind.DOCUMENT, NodeKind.ELEMENT):
-            yield from self._value(path, kind, name)
-            return
-        yield Open(kind, name)
-        yield from self._all(f"{path}/@*")
-        yield from self._all(f"{path}/node()")
-        yield Close()
-
-    def _head(self, path: str) -> tuple[NodeKind, str]:
-        """The kind and the name of a node, without the rest of it."""
-        tests = {
-            NodeKind.DOCUMENT: "self::document-node()",
-            NodeKind.ELEMENT: "self::element()",
-            NodeKind.TEXT: "self::text()",
-            NodeKind.COMMENT: "self::comment()",
-            NodeKind.INSTRUCTION: "self::processing-instruction()",
-        }
-        asked = ", ".join(f"exists($n/{test})" for test in tests.values())
-        answer = self._client.query(f"let $n := {path} return ({asked}, name($n))")
-        kinds = [kind for kind, holds in zip(tests, answer, strict=False) if holds is True]
-        return (kinds or [NodeKind.ATTRIBUTE])[0], str(answer[-1])
-
-    def _all(self, path: str) -> Iterator[Event]:
-        """The events of all nodes of a path, in ranges that fit a reply."""
-        [count] = self._client.query(f"count({path})")
-        assert isinstance(count, int)
-        first, width = 1, max(count, 1)
-        while first <= count:
-            last = min(first + width - 1, count)
-            text = _text_or_none(self._client, _range(path, first, last))
-            if text is not None:
-                yield from events(text)
-                first, width = last + 1, width * 2
-            elif width > 1:
-                width = (last - first + 2) // 2
-            else:
-                yield from self.node(f"{path}[{first}]")
-                first += 1
-
-    def _value(self, path: str, kind: NodeKind, name: str) -> Iterator[Event]:
-        """A long value: a text as several, any other node as one."""
-        pieces = self._pieces(path)
-        if kind is NodeKind.TEXT:
-            yield from (Leaf(kind, name, piece) for piece in pieces)
-        else:
-            yield Leaf(kind, name, "".join(pieces))
-
-    def _pieces(self, path: str) -> Iterator[str]:
-        [length] = self._client.query(f"string-length(string({path}))")
-        assert isinstance(length, int)
-        for first in range(1, length + 1, TEXT_PIECE):
-            [piece] = self._client.query(f"substring(string({path}), {first}, {TEXT_PIECE})")
-            yield str(piece)
-
-
-def _range(path: str, first: int, last: int) -> str:
-    return f"{path}[position() >= {first} and position() <= {last}]"

@@ -13,6 +13,8 @@ PROCESSES = Path("/proc")
 LOCKS = PROCESSES / "locks"
 _LOCK = re.compile(r" (?P<process>\d+) (?P<device>[0-9a-f]+:[0-9a-f]+):(?P<inode>\d+) ")
 UNSTARTED = "the server ended as it started"
+_SERVE = "serve"
+"""The command that serves a file in the background, among the words of a process."""
 SHOWN = 100
 """So many characters of a command stand in a message."""
 
@@ -106,9 +108,12 @@ def why_not_opened(command: Sequence[str]) -> str:
         return ""
     found = holders(path)
     if found:
-        by = [f"{it}{_started_by(it)}" for it in found]
-        return (f"{path} is in use by {' and '.join(by)}: end that, or ask through it (`xqs mux` "
-                "and `xqs web` serve one file to many)")
+        starters = [starter_of(it) for it in found]
+        by = [f"{it}{f', started by {starter}' if starter else ''}"
+              for it, starter in zip(found, starters, strict=True)]
+        served = [file_of(it.words) for it, starter in zip(found, starters, strict=True)
+                  if starter is not None and _SERVE in starter.words]
+        return f"{path} is in use by {' and '.join(by)}: {_advice(path, served)}"
     folder = path.parent
     if not folder.is_dir():
         return f"there is no folder {folder}"
@@ -120,9 +125,12 @@ def why_not_opened(command: Sequence[str]) -> str:
     return ""
 
 
-def _started_by(holder: Holder) -> str:
-    starter = starter_of(holder)
-    return f", started by {starter}" if starter else ""
+def _advice(path: Path, served: Sequence[Path | None]) -> str:
+    """What to do about those who hold a file, of which some serve it under these names."""
+    if served:
+        return ("`xqs serve` opens or ends it at this moment, so ask again, or has it by another "
+                f"name; `xqs stop {served[0] or path}` ends it")
+    return f"end that, or ask through it (`xqs serve {path}` serves a file to many)"
 
 
 def ended_at_start(command: Sequence[str], how: str) -> str:

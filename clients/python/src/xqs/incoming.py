@@ -109,7 +109,9 @@ class PrintedDocument:
         return self._document.nodes
 
     def parts(self) -> Iterator[Part]:
-        return constructor_parts(self._document, self._steps)
+        for part in constructor_parts(self._document, self._steps):
+            self.read += len(part.text)
+            yield part
 
     def whole(self) -> str:
         return self._document.whole()
@@ -124,7 +126,7 @@ class ConstructorDocument(PrintedDocument):
 
     def parts(self) -> Iterator[Part]:
         try:
-            parts = list(super().parts())
+            parts = list(constructor_parts(self._document, self._steps))
         except TooLarge as error:
             raise self._reader.fault(str(error)) from None
         return self._passed(parts)

@@ -54,6 +54,7 @@ async def settle_doubt(servers: "ManyServers", first: Replica) -> None:
     while (doubtful := servers.replicas.doubtful) is not None:
         others = servers.replicas.holding(first)
         address = address_of(doubtful.payload)
+        servers.replicas.changes.note(address)
         if others and address:
             try:
                 theirs = await fingerprint(others[0].ask, address)

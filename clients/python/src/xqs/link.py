@@ -9,6 +9,7 @@ import threading
 import time
 
 from xqs import protocol
+from xqs.changes import Changes
 from xqs.endings import (
     END_PATIENCE,
     RETRY_SECONDS,
@@ -33,6 +34,8 @@ class Link:
         self._origin = origin
         self.watch: Watch[TextFuture] = Watch(origin)
         self._in_flight = self.watch.in_flight
+        self.changes = Changes()
+        """The changes that were asked for here, each noted before its frame is sent."""
         self._turn = threading.RLock()
         """Held by whoever sends, so that frames go out in order, and where the stream changes."""
         self._status: int | None = None
@@ -58,6 +61,8 @@ class Link:
             raise _unsent(request)
         try:
             stream = self._ready(deadline)
+            if request.changes:
+                self.changes.note(request.address.encode())
             data = self._in_flight.begin(Waiting(request, future, seconds))
             stream.send(data, deadline)
         except TimeoutError:

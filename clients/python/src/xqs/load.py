@@ -152,7 +152,7 @@ class Loader:
             address = address_of(file.path, self._prefix)
             with open(file.place, "rb") as data:
                 document = incoming(data, file.path, temporary, self._choices, by_name=True)
-                self._sender.send(address, document, temporary, done)
+                self._sender.send(address, document, temporary, done, self._progress)
         except Closed:
             raise
         except (XqError, ValueError, OSError) as error:

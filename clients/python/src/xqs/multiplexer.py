@@ -5,12 +5,14 @@ import time
 from collections.abc import Awaitable, Callable, Sequence
 
 from xqs.bounds import lost, overdue
+from xqs.changes import Changes
 from xqs.errors import XqError
 from xqs.metrics import Metrics, Report, ServerReport, holds_in
 from xqs.mux_backend import Backend, StartFailed
 from xqs.mux_clients import Clients, Settings
 from xqs.mux_peer import Request, refusal
 from xqs.protocol import Kind, Status
+from xqs.replica import address_of
 from xqs.starting import is_on_file as is_on_file
 from xqs.watching import ended_by_memory, resident
 
@@ -49,6 +51,7 @@ class Multiplexer:
         self._clients = Clients(settings, say, self._pass_on)
         self.serve = self._clients.serve
         self._addresses: set[bytes] = set()
+        self._changes = Changes()
         self._turn = asyncio.Lock()
         self._window = asyncio.Semaphore(settings.window)
         self._tasks: list[asyncio.Task[None]] = []
@@ -98,8 +101,10 @@ class Multiplexer:
                 self._shut.set()
             return
         self._window.release()
-        if request.changes() and reply[0] == Status.DONE and not self._on_file:
-            self._note_change(request)
+        if request.changes():
+            self._changes.note(address_of(request.payload))
+            if reply[0] == Status.DONE and not self._on_file:
+                self._note_change(request)
         if reply == WANTING_STORE:
             self._look_whether_shut()
         if not request.peer.gone:
@@ -108,10 +113,11 @@ class Multiplexer:
             self._clients.cut_largest()
 
     def _note_change(self, request: Request) -> None:
+        address = address_of(request.payload)
         if request.kind == Kind.DROP:
-            self._addresses.discard(request.payload[1:])
+            self._addresses.discard(address)
         else:
-            self._addresses.add(request.payload[2:2 + request.payload[1]])
+            self._addresses.add(address)
 
     def _look_whether_shut(self) -> None:
         """Has the server list its addresses: where that wants the store too, it has shut."""
@@ -158,6 +164,7 @@ class Multiplexer:
         in_flight = list(old.in_flight)
         old.in_flight.clear()
         self._restarts += 1
+        self._changes.begin_anew()  # The last change may have been carried out, or not.
         self._say_why(old, len(in_flight))
         behind = self._settle(old, in_flight)
         if not self._on_file and (self._addresses or old is not self._left):
@@ -243,6 +250,10 @@ class Multiplexer:
             1, holds_in(self._on_file), "down" if backend.ended.is_set() else "ready",
             backend.frames, len(backend.in_flight), resident(process), self._restarts)
         return Report([server], len(self._clients))
+
+    def changes_of(self, address: bytes) -> str:
+        """What stays the same as long as nobody changes the document at the address."""
+        return self._changes.token(address)
 
     async def upgrade(self, command: Sequence[str], say: Callable[[str], Awaitable[None]]) -> None:
         """Refused: another program is taken over where there are several servers."""

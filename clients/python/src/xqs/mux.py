@@ -18,7 +18,14 @@ from xqs.listening import notify
 from xqs.metrics_http import MetricsServer
 from xqs.multiplexer import Multiplexer, is_on_file
 from xqs.mux_clients import Settings
-from xqs.mux_control import Multiplexing, actions_of, ask_upgrade, figures_of, lines_of
+from xqs.mux_control import (
+    Multiplexing,
+    actions_of,
+    ask_upgrade,
+    figures_of,
+    lines_of,
+    own_actions,
+)
 from xqs.mux_many import ManyServers
 from xqs.waiting import first_set
 
@@ -138,13 +145,15 @@ def split_command(argv: Sequence[str]) -> tuple[list[str], list[str]]:
     return words[:at], words[at + 1:]
 
 
-async def until_signal(failed: asyncio.Event, again: asyncio.Event) -> None:
-    """Waits for SIGTERM, SIGINT, SIGHUP or a failure; the next signal after that sets `again`.
+async def until_signal(failed: asyncio.Event, again: asyncio.Event,
+                       asked: asyncio.Event | None = None) -> None:
+    """Waits for SIGTERM, SIGINT, SIGHUP, a failure, or the event by which another process has
+    asked for the end; the next signal after that sets `again`.
 
     A SIGHUP that is ignored stays so, as `nohup` wants it.
     """
     loop = asyncio.get_running_loop()
-    first = asyncio.Event()
+    first = asked or asyncio.Event()
     for number in (signal.SIGTERM, signal.SIGINT, signal.SIGHUP):
         if number == signal.SIGHUP and signal.getsignal(number) is signal.SIG_IGN:
             continue
@@ -153,30 +162,31 @@ async def until_signal(failed: asyncio.Event, again: asyncio.Event) -> None:
     first.set()
 
 
-async def run(place: str, command: Sequence[str], settings: Settings,
-              metrics: str | None = None) -> int:
+async def run(place: str, command: Sequence[str], settings: Settings, metrics: str | None = None,
+              on_ready: Callable[[], object] = lambda: None) -> int:
     """Serves clients at the place until a signal, and figures at another one; gives the exit
-    status.
+    status. `on_ready` is called once clients can connect.
 
     Raises StartFailed and PlaceError.
     """
     multiplexer = multiplexer_of(command, settings, say)
     await multiplexer.start()
-    again = asyncio.Event()
+    asked, again = asyncio.Event(), asyncio.Event()
     hurried = asyncio.create_task(multiplexer.abandon_when(again))
     try:
         listener = listening.listen(place)
         async with AsyncExitStack() as stack:
             stack.enter_context(listening.removed_at_end(listener))
             name = listening.name_of(listener)
-            await stack.enter_async_context(
-                control.listening(name, actions_of(multiplexer), say))
+            actions = {**actions_of(multiplexer), **own_actions(command, asked, again)}
+            await stack.enter_async_context(control.listening(name, actions, say))
             if metrics:
                 await stack.enter_async_context(figures_at(metrics, multiplexer))
             server = await asyncio.start_server(multiplexer.serve, sock=listener)
             say(f"listens at {name}")
             notify("READY=1")
-            await until_signal(multiplexer.failed, again)
+            on_ready()
+            await until_signal(multiplexer.failed, again, asked)
             notify("STOPPING=1")
         server.close()
         await multiplexer.stop()

@@ -98,6 +98,7 @@ class Backend:
             await backend._probe(command, answered)
         except BaseException:
             backend.kill()
+            await backend.ended.wait()
             raise
         backend._on_reply, backend._seconds = on_reply, seconds
         return backend

@@ -1,7 +1,9 @@
 """What a multiplexer that runs can be asked by its owner, and the commands that ask it."""
 
 import argparse
+import asyncio
 import json
+import os
 import sys
 from collections.abc import Awaitable, Callable, Mapping, Sequence
 from pathlib import Path
@@ -9,8 +11,14 @@ from typing import Protocol
 
 from xqs import control
 from xqs.control import Action, Say
+from xqs.in_use import file_of
 from xqs.metrics import Metrics, Report, prometheus, status_text
+from xqs.protocol import address_bytes
+from xqs.served import Identity, place_named
 from xqs.upgrading import absolute
+
+AT_ONCE = "now"
+"""The argument by which a multiplexer ends without answering what it was asked before."""
 
 
 class Multiplexing(Protocol):
@@ -20,6 +28,8 @@ class Multiplexing(Protocol):
     def metrics(self) -> Metrics: ...
 
     def report(self) -> Report: ...
+
+    def changes_of(self, address: bytes) -> str: ...
 
     async def upgrade(self, command: Sequence[str],
                       say: Callable[[str], Awaitable[None]]) -> None: ...
@@ -44,10 +54,34 @@ def actions_of(multiplexer: Multiplexing) -> Mapping[str, Action]:
     async def metrics(_: str, say: Say) -> None:
         await say(figures_of(multiplexer))
 
+    async def changes(address: str, say: Say) -> None:
+        await say(multiplexer.changes_of(address_bytes(address)))
+
     async def upgrade(argument: str, say: Say) -> None:
         await multiplexer.upgrade(control.command_of(argument), say)
 
-    return {"status": status, "metrics": metrics, "upgrade": upgrade}
+    return {"status": status, "metrics": metrics, "changes": changes, "upgrade": upgrade}
+
+
+def own_actions(command: Sequence[str], asked: asyncio.Event,
+                again: asyncio.Event) -> Mapping[str, Action]:
+    """What a multiplexer that is a process of its own can be asked besides: which process it is,
+    which file its command has, and to end, in order or at once."""
+    file = file_of(command)
+    identity = Identity.of(file) if file is not None else None
+
+    async def process(_: str, say: Say) -> None:
+        await say(str(os.getpid()))
+
+    async def told_file(_: str, say: Say) -> None:
+        await say(str(identity) if identity else "none")
+
+    async def stop(argument: str, _: Say) -> None:
+        if argument == AT_ONCE or asked.is_set():
+            again.set()
+        asked.set()
+
+    return {"process": process, "file": told_file, "stop": stop}
 
 
 def ask_upgrade(place: str, command: Sequence[str]) -> int:
@@ -65,10 +99,12 @@ def status_main(words: Sequence[str]) -> int:
         prog="xqs status",
         description="Says how the multiplexer does that listens at a place: its servers, clients, "
         "lines and times.")
-    parser.add_argument("place", metavar="unix:PATH|tcp:PORT", help="where its clients connect")
+    parser.add_argument("place", metavar="unix:PATH|tcp:PORT|FILE",
+                        help="where its clients connect, or the file that `xqs serve` serves")
     parser.add_argument("--metrics", action="store_true",
                         help="all figures, in the format that Prometheus reads")
     given = parser.parse_args(words)
-    for line in control.ask(given.place, "metrics" if given.metrics else "status"):
+    place = place_named(given.place)
+    for line in control.ask(place, "metrics" if given.metrics else "status"):
         print(line)
     return 0

@@ -299,6 +299,10 @@ class ManyServers:
         return Report(servers, len(self.clients), len(self.replicas.waiting),
                       len(self.replicas.writes), self.comparing.count, self.replicas.differs)
 
+    def changes_of(self, address: bytes) -> str:
+        """What stays the same as long as nobody changes the document at the address."""
+        return self.replicas.changes.token(address)
+
     async def upgrade(self, command: Sequence[str], say: Callable[[str], Awaitable[None]]) -> None:
         """Has another program take over, server by server. Raises NotUpgraded."""
         await upgrade(self, command, say)

@@ -2,12 +2,15 @@
 
 A request holds about a megabyte. What is pending of an open element is taken away as a part once it
 grows beyond a limit: a document under a temporary address, whose nodes the element's constructor
-then asks for. Parts may ask for other parts. Nothing here reads or writes.
+then asks for. Parts may ask for other parts. Once a document is known to be long, its nodes are
+`packing`'s as well, so that parts have few nodes. Nothing here reads or writes.
 """
 
 from dataclasses import dataclass
 
+from xqs import packing
 from xqs.errors import XqError
+from xqs.packing import Packed, counted, packed_element, packed_leaf, part_of, unpacked
 from xqs.protocol import MAX_LEVEL, MAX_NODES
 from xqs.temporary import Temporary
 from xqs.values import Atom, Close, Event, Leaf, NodeKind, Open, quoted
@@ -35,40 +38,69 @@ class Part:
 class _Run:
     """Expressions that stand side by side: first those that stand for parts, then constructors.
 
-    `size` is how many bytes the constructors have, joined, `parts_size` those for parts.
+    `nodes` has of each how it is packed, None where it isn't. `size` is how many bytes the
+    constructors have, joined, `parts_size` those for parts; `packed` are the addresses of the parts
+    that the last of these stands for, where they are packed ones.
     """
 
-    __slots__ = ("texts", "size", "parts", "parts_size")
+    __slots__ = ("texts", "nodes", "size", "parts", "parts_size", "packed")
 
     def __init__(self) -> None:
         self.texts: list[str] = []
+        self.nodes: list[Packed | None] = []
+        self.packed: list[str] = []
         self.size = self.parts = self.parts_size = 0
 
-    def constructors(self) -> str:
-        """What is to be put into a part: the constructors, and where the expressions for parts
-        have become long themselves, these too."""
+    def add(self, text: str, size: int, node: Packed | None) -> None:
+        """Puts a constructor behind the others."""
+        self.texts.append(text)
+        self.nodes.append(node)
+        self.size += size + 2
+
+    def give_up_parts(self) -> None:
+        """Takes the expressions for parts for constructors, where they have become long
+        themselves, so that they are put into the next part."""
         if self.parts_size > PART_BYTES // 2:
             self.parts = self.parts_size = 0
+            self.packed = []
+
+    def constructors(self) -> str:
+        """What is to be put into a part."""
         return ", ".join(self.texts[self.parts :])
+
+    def items(self) -> list[tuple[str, Packed | None]]:
+        """What is to be put into a packed part."""
+        return list(zip(self.texts[self.parts :], self.nodes[self.parts :], strict=True))
 
     def replace(self, text: str) -> None:
         """Puts the expression for a part in the place of the constructors."""
         self.texts[self.parts :] = [text]
+        self.nodes[self.parts :] = [None]
         self.parts += 1
         self.parts_size += len(text) + 2
+        self.packed = []
         self.size = 0
+
+    def replace_packed(self, address: str) -> None:
+        """Puts the expression for a packed part there, which is one with those before it."""
+        packed = [*self.packed, address]
+        if self.packed:
+            self.parts -= 1
+            self.parts_size -= len(self.texts[self.parts]) + 2
+        self.replace(unpacked(packed))
+        self.packed = packed
 
 
 class _Parent(_Run):
     """An open document or element: its constructor up to the brace, its attributes; it is the run
     of its children itself."""
 
-    __slots__ = ("head", "attributes")
+    __slots__ = ("head", "name", "attributes")
 
-    def __init__(self, head: str) -> None:
-        self.texts = []
+    def __init__(self, head: str, name: str = "") -> None:
+        self.texts, self.nodes, self.packed = [], [], []
         self.size = self.parts = self.parts_size = 0
-        self.head = head
+        self.head, self.name = head, name
         self.attributes: _Run | None = None
 
 
@@ -127,6 +159,9 @@ class DocumentText:
         self._last = _Parent("document {")
         self._stack = [self._last]
         self._parts: list[Part] = []
+        self._packs = False
+        """Whether nodes are packed: the document is long, as far as it is known."""
+        self._has_packed = False
 
     @property
     def nodes(self) -> int:
@@ -136,7 +171,7 @@ class DocumentText:
     def open(self, name: str) -> None:
         """An element begins."""
         self._count.open()
-        self._last = _Parent(f"element {name} {{")
+        self._last = _Parent(f"element {name} {{", name)
         self._stack.append(self._last)
 
     def attribute(self, name: str, value: str) -> None:
@@ -150,8 +185,7 @@ class DocumentText:
         if run.size and run.size + size > self._limit // 2:
             holder = "document {element holder {" + run.constructors() + "}}"
             run.replace(f'doc("{self._stored(holder)}")/*/@*')
-        run.texts.append(text)
-        run.size += size + 2
+        run.add(text, size, self._leaf(packing.ATTRIBUTE, name, value))
 
     def text(self, value: str) -> None:
         """A text; it may be empty, and it is one node with a text before it."""
@@ -159,20 +193,21 @@ class DocumentText:
             return
         self._count.text()
         if len(value) <= self._piece:
-            self._add(f"text {{{quoted(value)}}}")
+            self._add(f"text {{{quoted(value)}}}", self._leaf(packing.TEXT, "", value))
             return
         for at in range(0, len(value), self._piece):
-            self._add(f"text {{{quoted(value[at : at + self._piece])}}}")
+            self._add(f"text {{{quoted(value[at : at + self._piece])}}}", None)
 
     def comment(self, value: str) -> None:
         """A comment."""
         self._count.add()
-        self._add(self._valued("comment {", value))
+        self._add(self._valued("comment {", value), self._leaf(packing.COMMENT, "", value))
 
     def instruction(self, name: str, value: str) -> None:
         """A processing instruction."""
         self._count.add()
-        self._add(self._valued(f"processing-instruction {name} {{", value))
+        self._add(self._valued(f"processing-instruction {name} {{", value),
+                  self._leaf(packing.INSTRUCTION, name, value))
 
     def close(self) -> None:
         """The element that was opened last ends."""
@@ -185,8 +220,10 @@ class DocumentText:
         if size > self._limit and last.size:
             self._take_away(last)
         texts = attributes.texts + last.texts if attributes else last.texts
+        nodes = attributes.nodes + last.nodes if attributes else last.nodes
         self._last = self._stack[-1]
-        self._add(last.head + ", ".join(texts) + "}")
+        node = packed_element(last.name, nodes) if self._packs else None
+        self._add(last.head + ", ".join(texts) + "}", node)
 
     def event(self, event: Event) -> None:
         """A step through printed nodes, those of the document itself aside.
@@ -215,21 +252,36 @@ class DocumentText:
         return parts
 
     def whole(self) -> str:
-        """The text of the whole document, once all its elements have ended."""
-        return self._stack[0].head + ", ".join(self._stack[0].texts) + "}"
+        """The text of the whole document, once all its elements have ended.
 
-    def _add(self, text: str) -> None:
+        Where nodes are packed it gives no document, should these not be as many as there were.
+        """
+        text = self._stack[0].head + ", ".join(self._stack[0].texts) + "}"
+        return counted(text, self.nodes) if self._has_packed else text
+
+    def _leaf(self, kind: int, name: str, value: str) -> Packed | None:
+        return packed_leaf(kind, name, value) if self._packs else None
+
+    def _add(self, text: str, node: Packed | None) -> None:
         run = self._last
         size = len(text) if text.isascii() else len(text.encode())
         if run.size + size > self._limit and run.size:
             self._take_away(run)
-        run.texts.append(text)
-        run.size += size + 2
+        run.add(text, size, node)
+        if not self._packs and run.size > self._limit // 4:
+            self._packs = self._limit >= packing.LEAST_PART
 
     def _take_away(self, run: _Run) -> None:
         """Makes a part of the nodes that the run holds."""
-        address = self._stored("document {" + run.constructors() + "}")
-        run.replace(f'doc("{address}")/node()')
+        run.give_up_parts()
+        # (in a packed part nodes stand a level deeper, which those below the document can't do)
+        is_below = run is not self._stack[0]
+        if self._packs and is_below and len(self._stack) <= packing.HIGHEST:
+            self._has_packed = True
+            run.replace_packed(self._stored(f"document {{{part_of(run.items())}}}"))
+        else:
+            address = self._stored("document {" + run.constructors() + "}")
+            run.replace(f'doc("{address}")/node()')
 
     def _stored(self, text: str) -> str:
         part = Part(self._temporary.next(), text)

@@ -17,6 +17,7 @@ from xqs.faults import line_and_column as line_and_column
 from xqs.language_tables import FUNCTIONS as FUNCTIONS
 from xqs.language_tables import GRAMMAR, NO_CALLS
 from xqs.language_tables import TYPES as TYPES
+from xqs.queries import NOT_XML
 from xqs.tokens import Token, tokens
 
 KEYWORDS = tuple(sorted(set(re.findall(r'"([a-z-]+)"', GRAMMAR))))
@@ -25,9 +26,6 @@ _NO_CALLS = {*NO_CALLS, *(it for it in KEYWORDS if it not in FUNCTIONS)}
 """Names that stand before a bracket without being called: tests, `in (`, `return (`."""
 READ_AT_MOST = 20_000
 """Of longer texts the grammar is not read: it takes time."""
-
-_NO_CHARACTER = re.compile("[^\t\n\r\x20-\ud7ff\ue000-\ufffd\U00010000-\U0010ffff]")
-"""What XML 1.0 doesn't have."""
 _NUMBERED = re.compile(r"&#(x[0-9a-fA-F]+|[0-9]+);")
 _EXPONENT = re.compile(r"[eE][+-]?[0-9]")
 _REFERENCE = re.compile(r"&(?!(?:lt|gt|amp|quot|apos|#[0-9]+|#x[0-9a-fA-F]+);)")
@@ -172,7 +170,7 @@ def _no_token(found: Iterable[Token]) -> Place | None:
     before: Token | None = None
     for token in found:
         wrong = _REFERENCE.search(token.text) if token.kind == "string" else None
-        strange = _NO_CHARACTER.search(token.text)
+        strange = NOT_XML.search(token.text)
         if strange:
             return Place(token.at + strange.start(), "XML has no such character")
         if wrong:
@@ -200,7 +198,7 @@ def _no_reference(found: list[Token]) -> Place | None:
         for wrong in _NUMBERED.finditer(token.text):
             digits = wrong[1]
             number = int(digits[1:], 16) if digits[0] == "x" else int(digits)
-            if number > 0x10FFFF or _NO_CHARACTER.match(chr(number)):
+            if number > 0x10FFFF or NOT_XML.match(chr(number)):
                 return Place(token.at + wrong.start(), f"{wrong[0]} names no character of XML")
     return None
 

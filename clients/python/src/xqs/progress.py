@@ -28,11 +28,13 @@ class Progress:
         self._drawn = time.monotonic()
         self.begin(files, size, unit)
 
-    def begin(self, files: int, size: int, unit: str = MEGABYTES) -> None:
-        """Begins again, with so many files and such a size."""
-        self._files, self._size, self._unit = files, size, unit
+    def begin(self, files: int, size: int, unit: str = MEGABYTES, passes: int = 1) -> None:
+        """Begins again, with so many files and such a size, all of which is gone over so often:
+        each time counts for what is done."""
+        self._files, self._size, self._unit, self._passes = files, size * passes, unit, passes
         self._start = time.monotonic()
         self.done = self.bytes = self.refused = self.skipped = 0
+        self._at, self._part = 0, 0.0
 
     @property
     def seconds(self) -> float:
@@ -49,11 +51,26 @@ class Progress:
         """Another file of such a size is done."""
         self.done += 1
         self.refused += is_refused
-        self.reach(self.bytes + size)
+        self.bytes += size
+        self._at, self._part = 0, 0.0
+        self._draw()
 
     def reach(self, size: int) -> None:
-        """So much is done of the size."""
-        self.bytes = max(self.bytes, size)
+        """So much of the file at hand is done."""
+        self._at = max(self._at, size)
+        self._draw()
+
+    def reach_nodes(self, nodes: int, of: int) -> None:
+        """So many of the nodes of the file at hand are done; where no file was counted, it is the
+        one that all goes by."""
+        if not self._files and (not self._size or self._unit == NODES):
+            self._size, self._unit = of, NODES
+            self.reach(nodes)
+        else:
+            self._part = max(self._part, nodes / of)
+            self._draw()
+
+    def _draw(self) -> None:
         if self.draws and time.monotonic() - self._drawn > _BETWEEN:
             self.show(self.line())
 
@@ -81,11 +98,12 @@ class Progress:
 
     def _share(self) -> float:
         """How much of all is done, from 0 to 1; 0 where it isn't known."""
-        done, of = (self.bytes, self._size) if self._size else (self.done, self._files)
+        by_size, by_files = self.bytes + self._at, self.done + self._part
+        done, of = (by_size, self._size) if self._size else (by_files, self._files)
         return min(done / of, 1.0) if of > 0 else 0.0
 
     def _rate(self) -> str:
-        rate = self.bytes / max(self.seconds, 0.001)
+        rate = (self.bytes + self._at) / self._passes / max(self.seconds, 0.001)
         return f"{rate / 1e6:.1f} MB/s" if self._unit == MEGABYTES else f"{rate:,.0f} nodes/s"
 
 

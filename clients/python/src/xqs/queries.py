@@ -13,7 +13,8 @@ from xqs.values import Item, Node, Untyped, quoted
 Value: TypeAlias = Item | Iterable[Item | None] | None
 """What a query can be given: an item, several, or none."""
 
-_NOT_XML = re.compile("[^\t\n\r\x20-\ud7ff\ue000-\ufffd\U00010000-\U0010ffff]")
+NOT_XML = re.compile("[^\t\n\r\x20-\ud7ff\ue000-\ufffd\U00010000-\U0010ffff]")
+"""A character that XML 1.0 doesn't have."""
 _LEAST, _MOST = -(2**63), 2**63 - 1
 _DECIMAL_BOUND = 10**19
 
@@ -61,7 +62,7 @@ def literal(value: Value) -> str:
 
 
 def _string(value: str) -> str:
-    wrong = _NOT_XML.search(value)
+    wrong = NOT_XML.search(value)
     if wrong:
         raise ValueError(f"the character U+{ord(wrong[0]):04X} at {wrong.start()} is not of XML")
     return quoted(value)

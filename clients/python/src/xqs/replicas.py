@@ -19,10 +19,11 @@ from collections.abc import AsyncIterator, Callable, Sequence
 from contextlib import asynccontextmanager
 from dataclasses import dataclass, field
 
+from xqs.changes import Changes
 from xqs.mux_clients import Settings
 from xqs.mux_peer import Peer, Request, refusal
 from xqs.protocol import Status
-from xqs.replica import HOLDING, Copy, Replica, State
+from xqs.replica import HOLDING, Copy, Replica, State, address_of
 
 WANTING_STORE = bytes([Status.WANTING]) + b"store"
 NO_ROOM = bytes([Status.WANTING]) + b"xqs:LINE"
@@ -82,6 +83,7 @@ class Replicas:
         self.all = [Replica(number + 1, self.on_reply) for number in range(settings.servers)]
         self.first = self.all[0]
         self.place = 0
+        self.changes = Changes()
         self.doubtful: Request | None = None
         self.differs = ""
         self.clients: Callable[[], int] = lambda: 1
@@ -289,6 +291,7 @@ class Replicas:
     def spread(self, payload: bytes, reply: bytes) -> None:
         """A write was carried out by the first server: all others have it from now on."""
         self.place += 1
+        self.changes.note(address_of(payload))
         took = self.first.backend.last_work
         for replica in self.all:
             if replica is not self.first and replica.state in HOLDING:
@@ -421,6 +424,7 @@ class Replicas:
     def lose(self) -> None:
         """All documents are lost, and each client's stream ends: what waits is for nobody."""
         self.place += 1
+        self.changes.begin_anew()
         self.doubtful = None
 
 

@@ -45,7 +45,7 @@ def main(words: Sequence[str]) -> int:
             return 0 if session.run(given.command) else 1
         if not sys.stdin.isatty():
             return _run_lines(session, sys.stdin)
-        print(f"{place}; .help says more" + (
+        print(f"{client.place}; .help says more" + (
             "" if is_lasting(place) else "; the documents are gone at the end"))
         for text in _typed(session, given.plain):
             _run_typed(session, text)

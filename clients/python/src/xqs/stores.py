@@ -200,12 +200,14 @@ def store_constructors(client: Client, address: str, text: str, source: str = "t
     return _send_and_wait(client, address, document, temporary)
 
 
-def store_again(client: Client, address: str, text: str) -> Stored:
+def store_again(
+    client: Client, address: str, text: str, progress: Progress | None = None
+) -> Stored:
     """Stores what the server has printed, at any address: a backup may hold parts. Misspelt, or
     another ValueError, where the server has not."""
     temporary = Temporary()
     document = PrintedDocument(events(text), temporary)
-    return _send_and_wait(client, address, document, temporary)
+    return _send_and_wait(client, address, document, temporary, progress)
 
 
 async def store_xml_async(

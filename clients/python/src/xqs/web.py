@@ -23,6 +23,7 @@ from xqs.mux_clients import Settings
 from xqs.mux_control import actions_of
 from xqs.mux_many import ManyServers
 from xqs.mux import add_limits, duration, positive, settings_of, split_command, until_signal
+from xqs.served import asked_at
 from xqs.web_connections import Connections
 from xqs.web_guard import NAMES, ORIGIN, read_token
 from xqs.web_rest import MAX_LINE, Rest, WebSettings
@@ -62,8 +63,10 @@ async def multiplexed(
     with tempfile.TemporaryDirectory(prefix="xqs-web-") as folder:
         path = f"{folder}/server"
         listener = await asyncio.start_unix_server(multiplexer.serve, path)
+        place = UnixSocket(path)
         try:
-            yield UnixSocket(path), multiplexer
+            async with control.listening(str(place), actions_of(multiplexer), say):
+                yield place, multiplexer
         except BaseException:
             await multiplexer.abandon()
             raise
@@ -168,7 +171,7 @@ def main(words: Sequence[str] | None = None) -> int:
     """
     before, command = split_command(sys.argv[1:] if words is None else words)
     given = parser().parse_args(before)
-    place = Command(tuple(command)) if command else server_of(given)
+    place = asked_at(Command(tuple(command)) if command else server_of(given))
     if given.origin and not given.token_file:
         raise ValueError("--origin wants --token-file: a page of elsewhere asks with the token")
     token = read_token(given.token_file) if given.token_file else None

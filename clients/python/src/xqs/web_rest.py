@@ -11,7 +11,7 @@ from typing import BinaryIO, TypeVar, cast
 
 from aiohttp import web
 
-from xqs import aio, client, protocol
+from xqs import aio, client, protocol, ranges
 from xqs.endpoints import Endpoint
 from xqs.errors import Refused
 from xqs.temporary import check_lasting
@@ -266,8 +266,7 @@ class Rest:
             query = asked.query(question, address)
             begin = time.perf_counter()
             try:
-                async with self._client() as connection:
-                    text = await connection.query_text(query)
+                text = await self._value(query, address if asked.is_whole() else "")
                 took = time.perf_counter() - begin
             except Refused as error:
                 if error.code != "prof:REPLY" or not address or not asked.is_whole():
@@ -277,6 +276,19 @@ class Rest:
             else:
                 body = await in_thread_if(len(text) > SHORT, answer_of, text, wanted)
         return await self._send(request, body, {"Server-Timing": f"server;dur={took * 1000:.3f}"})
+
+    async def _value(self, query: str, whole: str) -> str:
+        """The value of a query; where it is the whole document at an address, that is refused as
+        prof:REPLY by its sizes, before the server prints it."""
+        async with self._client() as connection:
+            if whole:
+                text = await connection.query_text(ranges.look(whole))
+                sizes = ranges.sizes_of(text)
+                if sizes is None:
+                    return text
+                if sizes[1] > ranges.WHOLE:
+                    raise Refused("prof:REPLY")
+            return await connection.query_text(query)
 
     async def _addresses(self, asked: Asked) -> list[str]:
         """The addresses of the moment, where the query may want those of a folder."""
