@@ -1,0 +1,4 @@
+pub mod Known
+pub mod Same
+pub mod Sure
+pub mod private
