@@ -53,10 +53,10 @@ merged (true ∷ bs) [] = true ∷ merged bs []
 merged (true ∷ bs) (c ∷ cs) = c ∷ merged bs cs
 
 module _ (known : List Held) (slots : Slots) (focus : Option Focus) (addresses : List Text) (f : List Tree) where
-  abbrev frame : Frame
+  abbrev pub frame : Frame
   frame = frame_of slots focus addresses
 
-  abbrev test_at : Meaning → Tuple Item → Doing Bool
+  abbrev pub test_at : Meaning → Tuple Item → Doing Bool
   test_at m t = Forms.tested m (at_tuple frame t)
 
   -- a test that can't be refused has an answer at each tuple

@@ -164,8 +164,8 @@ pub tests_follow : (start : ℕ) (known : List Held) (p q : Plan) (ds : List Pla
     SameMany start known (clause.Where q) ds known → SameMany start known (clause.Where p) ds known
 tests_follow start known p q ds is many slots focus addresses l tuples trees w =
     let first = where_follows start known p q is slots focus addresses l tuples trees w in
-    let then = many slots focus addresses l tuples trees w in
-    record { same = then.same ∙ first.same; fits = first.fits }
+    let second = many slots focus addresses l tuples trees w in
+    record { same = second.same ∙ first.same; fits = first.fits }
 
 -- # The whole expression
 

@@ -8,4 +8,3 @@ pub mod Loops
 pub mod Tests
 pub mod Below
 pub mod Conjuncts
-pub mod Swaps

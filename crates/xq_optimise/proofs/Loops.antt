@@ -20,7 +20,7 @@ use Rattle.xq_meaning.proofs.Turns.{go_on_give, go_on_go_on, in_turn-append}
 use Rattle.xq_optimise.specs.declared.held.Held.{Held}
 use Rattle.xq_optimise.specs.declared.held.Held.TheVariants.{Anything}
 use Rattle.xq_optimise.specs.Same.{GivesSame}
-use Rattle.xq_optimise.specs.private.Parts.{AreAll, SameKey, IsHeld, Binds, with_position, AllFit, GivesFitting, Follows, SameRanges, SameClause, SameMany, AddsClauses, AddsTests, SameRest, SameClauses, Extends, forgotten}
+use Rattle.xq_optimise.specs.private.Parts.{AreAll, SameKey, IsHeld, with_position, AllFit, GivesFitting, Follows, SameRanges, SameClause, SameMany, AddsClauses, AddsTests, SameClauses, Extends, forgotten}
 use Rattle.xq_optimise.proofs.Ranges.{ranges_push, held_of_same}
 use Rattle.xq_optimise.proofs.Flwor.{one_follows, tests_follow, for_follows, let_follows, order_follows, count_follows, group_follows, refused_follows}
 
@@ -73,6 +73,15 @@ left_size size all left taken rest x whole cut =
 
 -- # In order, over the list turned round
 
+-- one that is left is no deeper than the whole
+pub turned_size : {A : Type 0} (size : A → ℕ) (all left taken rest : List A) (x : A) → taken ++ reverse left ≡ all →
+    left ≡ rest ++ x ∷ [] → size x ≤ most size all
+turned_size size all left taken rest x whole cut =
+    let e = ap (most size) (sym whole ∙ ap (λ l. taken ++ reverse l) cut ∙ ap (λ l. taken ++ l) (reverse-append rest (x ∷ []))) in
+    let both = most-append size taken (x ∷ reverse rest) in
+    let first = most-append size (x ∷ []) (reverse rest) in
+    omega (arith, e, both, first)
+
 turned : {A : Type 0} (taken rest : List A) (x : A) → taken ++ reverse (rest ++ x ∷ []) ≡ (taken ++ x ∷ []) ++ reverse rest
 turned taken rest x = ap (λ l. taken ++ l) (reverse-append rest (x ∷ [])) ∙ sym (append_assoc taken (x ∷ []) (reverse rest))
 
@@ -90,8 +99,8 @@ no_ranges all left old is = record {
 
 pub range_next : (all left rest : List Plan) (old mid now now' : List Held) (done done' : List Plan) (p q : Plan) →
     RangesLeft all left old now done → left ≡ rest ++ p ∷ [] → GivesSame now p q → mid ≡ now →
-    Binds mid q false now' → done' ≡ done ++ q ∷ [] → RangesLeft all rest old now' done'
-range_next all left rest old mid now now' done done' p q h cut is kept (held, as', bound) pushed = record {
+    (held : Held) → IsHeld mid held q → now' ≡ mid ++ held ∷ [] → done' ≡ done ++ q ∷ [] → RangesLeft all rest old now' done'
+range_next all left rest old mid now now' done done' p q h cut is kept held as' bound pushed = record {
   taken = h.taken ++ p ∷ [];
   whole = sym (turned h.taken rest p) ∙ ap (λ l. h.taken ++ reverse l) (sym cut) ∙ h.whole;
   same =
@@ -123,15 +132,15 @@ pub extends_then : (start : ℕ) (old mid new : List Held) → Extends start old
     Extends start old new
 extends_then start old mid new h k = record { outer = k.outer ∙ h.outer; within = k.within }
 
-pub extends_bound : (start : ℕ) (old mid new : List Held) (p : Plan) (at : Bool) → start ≤ length old → mid ≡ old →
-    Binds mid p at new → Extends start old new
-extends_bound start old mid new p at h kept (held, as', bound) =
+pub extends_bound : (start : ℕ) (old mid new : List Held) (held : Held) (at : Bool) → start ≤ length old → mid ≡ old →
+    new ≡ mid ++ with_position held at → Extends start old new
+extends_bound start old mid new held at h kept bound =
     extends_more start old new (with_position held at) h (bound ∙ ap (λ k. k ++ with_position held at) kept)
 
 pub for_adds : (start : ℕ) (old mid new : List Held) (empties : AllowingEmpty) (at : Bool) (p q : Plan) (before after : List PlanClause) →
-    GivesSame old p q → mid ≡ old → Binds mid q at new → after ≡ before ++ clause.For empties at q ∷ [] →
+    GivesSame old p q → mid ≡ old → (held : Held) → IsHeld mid held q → new ≡ mid ++ with_position held at → after ≡ before ++ clause.For empties at q ∷ [] →
     AddsClauses start old (clause.For empties at p) before after new
-for_adds start old mid new empties at p q before after is kept (held, as', bound) pushed = (
+for_adds start old mid new empties at p q before after is kept held as' bound pushed = (
   clause.For empties at q ∷ [],
   pushed,
   one_follows start old new (clause.For empties at p) (clause.For empties at q)
@@ -140,9 +149,9 @@ for_adds start old mid new empties at p q before after is kept (held, as', bound
 )
 
 pub let_adds : (start : ℕ) (old mid new : List Held) (p q : Plan) (before after : List PlanClause) →
-    GivesSame old p q → mid ≡ old → Binds mid q false new → after ≡ before ++ clause.Let q ∷ [] →
+    GivesSame old p q → mid ≡ old → (held : Held) → IsHeld mid held q → new ≡ mid ++ held ∷ [] → after ≡ before ++ clause.Let q ∷ [] →
     AddsClauses start old (clause.Let p) before after new
-let_adds start old mid new p q before after is kept (held, as', bound) pushed = (
+let_adds start old mid new p q before after is kept held as' bound pushed = (
   clause.Let q ∷ [],
   pushed,
   one_follows start old new (clause.Let p) (clause.Let q)
@@ -196,6 +205,8 @@ pub record Leads (all left : List PlanClause) (now : List Held) (slots : Slots) 
   pub fits : GivesFitting now slots (in_turn (next_clause frame) tuples (map plan_clause_mean done) trees)
 
 pub record ClausesLeft (all left : List PlanClause) (start : ℕ) (old now : List Held) (done : List PlanClause) : Type 0 where
+  pub taken : List PlanClause
+  pub whole : taken ++ reverse left ≡ all
   pub outer : Extends start old now
   pub leads : (slots : Slots) (focus : Option Focus) (addresses : List Text) → length slots ≡ start →
       (tuples : List (Tuple Item)) (trees : List Tree) → AllFit old slots tuples →
@@ -204,6 +215,8 @@ pub record ClausesLeft (all left : List PlanClause) (start : ℕ) (old now : Lis
 pub no_clauses : (all left : List PlanClause) (start : ℕ) (old : List Held) (done : List PlanClause) → start ≤ length old → left ≡ reverse all →
     done ≡ [] → ClausesLeft all left start old old done
 no_clauses all left start old done h is none = record {
+  taken = [];
+  whole = ap reverse is ∙ reverse-reverse all;
   outer = extends_itself start old h;
   leads = λ slots focus addresses l tuples trees w.
       let frame = frame_of slots focus addresses in
@@ -229,6 +242,8 @@ pub clause_next : (all left rest : List PlanClause) (start : ℕ) (old now now' 
     ClausesLeft all left start old now done → left ≡ rest ++ c ∷ [] → SameMany start now c ds now' → Extends start now now' →
     done' ≡ done ++ ds → ClausesLeft all rest start old now' done'
 clause_next all left rest start old now now' done done' ds c h cut is more pushed = record {
+  taken = h.taken ++ c ∷ [];
+  whole = sym (turned h.taken rest c) ∙ ap (λ l. h.taken ++ reverse l) (sym cut) ∙ h.whole;
   outer = extends_then start old now now' h.outer more;
   leads = λ slots focus addresses l tuples trees w.
       let frame = frame_of slots focus addresses in
@@ -252,36 +267,12 @@ clause_next all left rest start old now now' done done' ds c h cut is more pushe
       });
 }
 
--- those that are left become others that give the same
-pub left_same : (all left left' : List PlanClause) (start : ℕ) (old now : List Held) (done : List PlanClause) →
-    ClausesLeft all left start old now done → SameRest start now left left' →
-    ClausesLeft all left' start old now done
-left_same all left left' start old now done h is = record {
-  outer = h.outer;
-  leads = λ slots focus addresses l tuples trees w.
-      let frame = frame_of slots focus addresses in
-      let act = next_clause frame in
-      let before = h.leads slots focus addresses l tuples trees w in
-      let o = in_turn act tuples (map plan_clause_mean done) trees in
-      record {
-        same = before.same ∙ rest_same now slots (λ n. in_turn act n (map plan_clause_mean (reverse left))) (λ n. in_turn act n (map plan_clause_mean (reverse left'))) (λ ts f w'. is slots focus addresses l ts f w') o before.fits;
-        fits = before.fits;
-      };
-}
-  where
-    rest_same : (known : List Held) (slots : Slots) (k l : List (Tuple Item) → Doing (List (Tuple Item))) →
-        ((tuples : List (Tuple Item)) (f : List Tree) → AllFit known slots tuples → l tuples f ≡ k tuples f) →
-        (o : Outcome (List (Tuple Item))) → GivesFitting known slots o → go_on o k ≡ go_on o l
-    rest_same known slots k l h (Ok tuples, f) w = sym (h tuples f w)
-    rest_same known slots k l h (Err code, f) w = refl
-
--- the same of what a clause becomes, and then those that are left are arranged
-pub clause_added : (all left rest rest' : List PlanClause) (start : ℕ) (old now now' : List Held) (done done' : List PlanClause) (c : PlanClause) →
+-- the same of what a clause becomes
+pub clause_added : (all left rest : List PlanClause) (start : ℕ) (old now now' : List Held) (done done' : List PlanClause) (c : PlanClause) →
     ClausesLeft all left start old now done → left ≡ rest ++ c ∷ [] → AddsClauses start now c done done' now' → Extends start now now' →
-    SameRest start now' rest rest' → ClausesLeft all rest' start old now' done'
-clause_added all left rest rest' start old now now' done done' c h cut (ds, pushed, is) more arranged =
-    left_same all rest rest' start old now' done'
-    (clause_next all left rest start old now now' done done' ds c h cut is more pushed) arranged
+    ClausesLeft all rest start old now' done'
+clause_added all left rest start old now now' done done' c h cut (ds, pushed, is) more =
+    clause_next all left rest start old now now' done done' ds c h cut is more pushed
 
 pub clauses_done : (all left : List PlanClause) (start : ℕ) (old now : List Held) (done : List PlanClause) →
     ClausesLeft all left start old now done → left ≡ [] → SameClauses start old all done now

@@ -117,13 +117,13 @@ path_held_at known p start (s ∷ steps) is all some =
 
 -- # From slots
 
+none_held : (m : ℕ) (a : Held) → (let none : List Held = [] in slice_get none m) ≡ Some a → ⊥
+none_held zero a e = cc
+none_held (suc m) a e = cc
+
 pub slot_held : (n : ℕ) (known : List Held) (slots : Slots) (held : Held) → Fits known slots →
     slice_get known n ≡ Some held → Holds held (value_at n slots)
-slot_held n [] [] held h is = absurd (none_is_some n held is)
-  where
-    none_is_some : (m : ℕ) (a : Held) → slice_get {A = Held} [] m ≡ Some a → ⊥
-    none_is_some zero a e = cc
-    none_is_some (suc m) a e = cc
+slot_held n [] [] held h is = absurd (none_held n held is)
 slot_held n [] (x ∷ slots) held h is = absurd h
 slot_held n (a ∷ known) [] held h is = absurd h
 slot_held zero (a ∷ known) (x ∷ slots) held h is = subst (λ b. Holds b x) (some_same a held is) h.0

@@ -8,7 +8,6 @@ ghost use Rattle.xq_optimise.specs.Same.{GivesSame};
 mod held;
 mod kinds;
 mod lists;
-mod order;
 mod sure;
 mod walk;
 mod wheres;

@@ -63,7 +63,7 @@ fn is_texts(known: &[Held], plan: &Plan) -> bool
 {
     match plan {
         Plan::Str(_) => true,
-        plan => is_nodes(known, plan),
+        _ => is_nodes(known, plan),
     }
 }
 

@@ -1,5 +1,5 @@
 //! The form of each part that is evaluated fast, where something is known of the slots.
-ghost use Rattle.std.specs.Prelude.{◌≡◌, ◌≤◌, IfOk, OnOk, length};
+ghost use Rattle.std.specs.Prelude.{◌≡◌, ◌≤◌, ◌++◌, IfOk, OnOk, length};
 ghost use Rattle.xq_meaning.specs.declared.plans.Plan.TheVariants as plan_of;
 ghost use Rattle.xq_optimise.specs.Same.{GivesSame};
 ghost use Rattle.xq_optimise.specs.private.Parts as parts;
@@ -7,7 +7,6 @@ ghost use Rattle.xq_optimise.specs.private.Parts as parts;
 use crate::held::Held;
 use crate::kinds::held_by;
 use crate::lists::reversed;
-use crate::order::arranged;
 use crate::wheres::{pushed, with_tests};
 use sqlite_items::{Boxed, Items};
 use std::alloc::{AllocError, Global};
@@ -229,8 +228,9 @@ fn ranges(
     let mut found = Items::new(alloc);
     while let Some(range) = left.pop() {
         let range = expression(alloc, known, range)?;
-        bind(known, &range, false)?;
+        let held = held_by(known, &range);
         found.push(range)?;
+        bind(known, held, false)?;
     }
     Ok(found)
 }
@@ -271,7 +271,6 @@ fn clauses(
     let mut found = Items::new(alloc);
     while let Some(next) = left.pop() {
         found = clause(alloc, known, outer, found, next)?;
-        left = arranged(known, left)?;
     }
     Ok(found)
 }
@@ -294,13 +293,17 @@ fn clause(
     match next {
         PlanClause::For(empties, at, range) => {
             let range = expression(alloc, known, range)?;
-            bind(known, &range, at)?;
-            pushed(found, PlanClause::For(empties, at, range))
+            let held = held_by(known, &range);
+            let found = pushed(found, PlanClause::For(empties, at, range))?;
+            bind(known, held, at)?;
+            Ok(found)
         }
         PlanClause::Let(value) => {
             let value = expression(alloc, known, value)?;
-            bind(known, &value, false)?;
-            pushed(found, PlanClause::Let(value))
+            let held = held_by(known, &value);
+            let found = pushed(found, PlanClause::Let(value))?;
+            bind(known, held, false)?;
+            Ok(found)
         }
         PlanClause::Where(test) => {
             let test = expression(alloc, known, test)?;
@@ -322,12 +325,10 @@ fn clause(
     }
 }
 
-/// Makes known what the slot of a variable holds that a part binds, and that of its position, where
-/// it has one.
-fn bind(known: &mut Vec<Held>, part: &Plan, at: bool) -> Result<(), AllocError>
-    ensures { OnOk result (parts.Binds known.old.items part.now at known.new.items) }
+/// Makes known what the slot of a variable holds, and that of its position, where it has one.
+fn bind(known: &mut Vec<Held>, held: Held, at: bool) -> Result<(), AllocError>
+    ensures { OnOk result (known.new.items ≡ known.old.items ++ parts.with_position held at) }
 {
-    let held = held_by(known, part);
     known.push(held)?;
     if at {
         known.push(Held::Anything)?;

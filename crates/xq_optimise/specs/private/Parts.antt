@@ -78,11 +78,6 @@ abbrev pub with_position : Held → Bool → List Held
 with_position held true = held ∷ Anything ∷ []
 with_position held false = held ∷ []
 
--- known is the slot that the plan's value is bound to, and that of the position
-abbrev pub Binds : List Held → Plan → Bool → List Held → Type 0
-Binds before p at after =
-    (held : Held) × IsHeld before held p × (after ≡ before ++ with_position held at)
-
 -- # Quantified expressions: each range where the variables before it have a slot
 
 abbrev pub SameRanges : List Held → List Plan → List Plan → List Held → Type 0

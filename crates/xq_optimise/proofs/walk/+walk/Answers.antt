@@ -2,13 +2,16 @@ use Rattle.std.proofs.Common.{◌≡◌, ◌<◌, ◌+◌, ◌*◌, ◌++◌, Li
 use Rattle.xq_meaning.specs.declared.plans.Plan.TheVariants as plan
 use Rattle.xq_meaning.specs.declared.plans.PlanClause.TheVariants as clause
 use Rattle.xq_meaning.specs.declared.plans.PlanStep.TheVariants as step
+use Rattle.xq_meaning.specs.declared.plans.PlanClause.{size-PlanClause}
+use denote.Param.Weighed.{most}
+use Rattle.std.proofs.lemmas.Result.{IfOk-weaker}
 use Rattle.xq_optimise.specs.Same.{GivesSame}
-use Rattle.xq_optimise.specs.private.Parts.{AreAll, SameOperand, SameCall, SameKey, SameStep, SameClause, SameClauses, SameRanges, Extends}
+use Rattle.xq_optimise.specs.private.Parts.{AreAll, SameOperand, SameCall, SameKey, SameStep, SameClause, SameClauses, SameRanges, IsHeld, Extends, AddsTests}
 use Rattle.xq_optimise.proofs.Forms as forms
 use Rattle.xq_optimise.proofs.Forms.{gives_at, known_at, all_known_at, itself, step_itself, each_gives}
-use Rattle.xq_optimise.proofs.Flwor.{flwor_gives, for_follows, let_follows, where_follows, order_follows, count_follows, group_follows, refused_follows}
+use Rattle.xq_optimise.proofs.Flwor.{flwor_gives}
 use Rattle.xq_optimise.proofs.Ranges.{quantified_gives, held_of_same}
-use Rattle.xq_optimise.proofs.Loops.{left_none, left_next, left_done, left_size, no_ranges, range_next, ranges_done, no_clauses, clause_next, clauses_done, extends_itself, extends_more, scope_left, ranges_left}
+use Rattle.xq_optimise.proofs.Loops.{left_none, left_next, left_done, left_size, turned_size, no_ranges, range_next, ranges_done, no_clauses, clause_added, clauses_done, for_adds, let_adds, tests_add, order_adds, count_adds, group_adds, refused_adds, adds_at, extends_bound, extends_itself, extends_more, scope_left, ranges_left}
 use Rattle.xq_optimise.proofs.walk.+walk.Goals as goal
 
 pub expression-returns-in_ok-expressions-in-Sequence-clause-same : goal.expression-returns-in_ok-expressions-in-Sequence-clause-same
@@ -94,5 +97,110 @@ expression-returns-in_ok-boxed-in-Unnamed-clause-same t c =
 pub expression-returns-in_ok-part-in-Quantified-clause-same : goal.expression-returns-in_ok-part-in-Quantified-clause-same
 expression-returns-in_ok-part-in-Quantified-clause-same t c =
     gives_at c.args.known.now.items c.args.plan (plan.Quantified c.in-Quantified.quantifier c.in-Quantified.list c.in-Quantified.part) (plan.Quantified c.in-Quantified.quantifier c.in_ok-list-in-Quantified.list c.in_ok-part-in-Quantified.part) c.in-Quantified.is
-    (quantified_gives c.args.known.now.items c.ranges.new.known.items c.in-Quantified.quantifier c.in-Quantified.list c.in_ok-list-in-Quantified.list c.in-Quantified.part c.in_ok-part-in-Quantified.part
+    (quantified_gives c.args.known.now.items c.ranges-in-Quantified.new.known.items c.in-Quantified.quantifier c.in-Quantified.list c.in_ok-list-in-Quantified.list c.in-Quantified.part c.in_ok-part-in-Quantified.part
     c.in_ok-list-in-Quantified.ensures.same c.in_ok-part-in-Quantified.ensures.same)
+
+pub expression-returns-in_ok-part-in-Quantified-clause-kept : goal.expression-returns-in_ok-part-in-Quantified-clause-kept
+expression-returns-in_ok-part-in-Quantified-clause-kept t c =
+    ranges_left c.len-outer.result c.args.known.now.items c.ranges-in-Quantified.new.known.items c.boxed-in-Quantified.new.known.items c.truncate.new.self.items c.in-Quantified.list c.in_ok-list-in-Quantified.list
+    (c.len-outer.ensures ∙ c.args.known.now.ok.0) c.in_ok-list-in-Quantified.ensures.same c.in_ok-part-in-Quantified.ensures.kept c.truncate.ensures.items
+
+-- # Loops
+
+pub expressions-loop-part-preserved : goal.expressions-loop-part-preserved
+expressions-loop-part-preserved t c =
+    left_next GivesSame c.args.list c.loop-part.left c.pop.new.self c.args.known.now.items c.loop-part.known.items c.expression.new.known.items c.loop-part.found.items c.push.new.self.items c.in-Some.part c.in_ok-expression.field-0
+    c.loop-part.invariant c.in-Some.ensures c.in_ok-expression.ensures.same c.in_ok-expression.ensures.kept c.in_ok-push.ensures.items
+
+pub operands-loop-operator-preserved : goal.operands-loop-operator-preserved
+operands-loop-operator-preserved t c =
+    left_next SameOperand c.args.list c.loop-operator.left c.pop.new.self c.args.known.now.items c.loop-operator.known.items c.expression.new.known.items c.loop-operator.found.items c.push.new.self.items (c.in-Some.operator, c.in-Some.operand) (c.in-Some.operator, c.in_ok-operand.operand)
+    c.loop-operator.invariant c.in-Some.ensures (refl, c.in_ok-operand.ensures.same) c.in_ok-operand.ensures.kept c.in_ok-push.ensures.items
+
+pub steps-loop-part-preserved : goal.steps-loop-part-preserved
+steps-loop-part-preserved t c =
+    left_next SameStep c.args.list c.loop-part.left c.pop.new.self c.args.known.now.items c.loop-part.known.items c.step.new.known.items c.loop-part.found.items c.push.new.self.items c.in-Some.part c.in_ok-step.field-0
+    c.loop-part.invariant c.in-Some.ensures c.in_ok-step.ensures.same c.in_ok-step.ensures.kept c.in_ok-push.ensures.items
+
+pub keys-loop-key-preserved : goal.keys-loop-key-preserved
+keys-loop-key-preserved t c =
+    left_next SameKey c.args.list c.loop-key.left c.pop.new.self c.args.known.now.items c.loop-key.known.items c.expression.new.known.items c.loop-key.found.items c.push.new.self.items (c.in-Some.key, c.in-Some.modifier) (c.in_ok-key.key, c.in-Some.modifier)
+    c.loop-key.invariant c.in-Some.ensures (c.in_ok-key.ensures.same, refl) c.in_ok-key.ensures.kept c.in_ok-push.ensures.items
+
+pub step-returns-in_ok-expression-in-Each-clause-same : goal.step-returns-in_ok-expression-in-Each-clause-same
+step-returns-in_ok-expression-in-Each-clause-same t c =
+    subst (λ s. SameStep c.args.known.now.items s (step.Each c.in_ok-expression-in-Each.field-0)) (sym c.in-Each.is)
+    (each_gives c.args.known.now.items c.in-Each.part c.in_ok-expression-in-Each.field-0 c.in_ok-expression-in-Each.ensures.same)
+
+pub ranges-loop-range-preserved : goal.ranges-loop-range-preserved
+ranges-loop-range-preserved t c =
+    range_next c.args.list c.loop-range.left.items c.pop.new.self.items c.args.known.now.items c.expression.new.known.items c.loop-range.known.items c.bind.new.known.items c.loop-range.found c.push.new.self c.in-Some.range c.in_ok-range.range
+    c.loop-range.invariant c.in-Some.ensures.items c.in_ok-range.ensures.same c.in_ok-range.ensures.kept c.held_by-held.result
+    (subst (λ k. IsHeld k c.held_by-held.result c.in_ok-range.range) c.deref.ensures.value c.held_by-held.ensures) c.in_ok-bind.ensures c.in_ok-push.ensures.ok
+
+-- # Clauses
+
+pub flwor-returns-clause-same : goal.flwor-returns-clause-same
+flwor-returns-clause-same t c =
+    flwor_gives c.args.known.now.items c.clauses.new.known.items c.args.list c.in_ok-list.list c.args.part c.in_ok-part.part
+    (subst (λ n. SameClauses n c.args.known.now.items c.args.list c.in_ok-list.list c.clauses.new.known.items) (c.len-outer.ensures ∙ c.args.known.now.ok.0) c.in_ok-list.ensures.same)
+    c.in_ok-part.ensures.same
+
+pub clauses-loop-next-preserved : goal.clauses-loop-next-preserved
+clauses-loop-next-preserved t c =
+    clause_added c.args.list c.loop-next.left.items c.pop.new.self.items c.args.outer c.args.known.now.items c.loop-next.known.items c.clause.new.known.items c.loop-next.found c.in_ok-found.found c.in-Some.next
+    c.loop-next.invariant c.in-Some.ensures.items c.in_ok-found.ensures.same c.in_ok-found.ensures.outer
+
+pub clauses-clause-requires : goal.clauses-clause-requires
+clauses-clause-requires t c =
+    let at : 4 * most size-PlanClause c.args.list + 1 ≡ t = c.decreases in
+    let among = turned_size size-PlanClause c.args.list c.loop-next.left.items c.loop-next.invariant.taken c.pop.new.self.items c.in-Some.next c.loop-next.invariant.whole c.in-Some.ensures.items in
+    let below : 4 * size-PlanClause c.in-Some.next < t = omega (arith, at, among) in
+    (below, c.loop-next.invariant.outer.within)
+
+-- # What a clause adds
+
+pub clause-returns-in_ok-bind-in-For-clause-same : goal.clause-returns-in_ok-bind-in-For-clause-same
+clause-returns-in_ok-bind-in-For-clause-same t c =
+    adds_at c.args.outer c.args.known.now.items c.args.next (clause.For c.in-For.empties c.in-For.at c.in-For.range) c.args.found c.in_ok-found-in-For.found c.bind.new.known.items c.in-For.is
+    (for_adds c.args.outer c.args.known.now.items c.expression.new.known.items c.bind.new.known.items c.in-For.empties c.in-For.at c.in-For.range c.in_ok-range-in-For.range c.args.found c.in_ok-found-in-For.found
+    c.in_ok-range-in-For.ensures.same c.in_ok-range-in-For.ensures.kept c.held_by-held.result
+    (subst (λ k. IsHeld k c.held_by-held.result c.in_ok-range-in-For.range) c.deref.ensures.value c.held_by-held.ensures) c.in_ok-bind-in-For.ensures c.in_ok-found-in-For.ensures)
+
+pub clause-returns-in_ok-bind-in-Let-clause-same : goal.clause-returns-in_ok-bind-in-Let-clause-same
+clause-returns-in_ok-bind-in-Let-clause-same t c =
+    adds_at c.args.outer c.args.known.now.items c.args.next (clause.Let c.in-Let.value) c.args.found c.in_ok-found-in-Let.found c.bind-in-Let.new.known.items c.in-Let.is
+    (let_adds c.args.outer c.args.known.now.items c.expression-in-Let.new.known.items c.bind-in-Let.new.known.items c.in-Let.value c.in_ok-value-in-Let.value c.args.found c.in_ok-found-in-Let.found
+    c.in_ok-value-in-Let.ensures.same c.in_ok-value-in-Let.ensures.kept c.held_by-held-in-Let.result
+    (subst (λ k. IsHeld k c.held_by-held-in-Let.result c.in_ok-value-in-Let.value) c.deref-in-Let.ensures.value c.held_by-held-in-Let.ensures) c.in_ok-bind-in-Let.ensures c.in_ok-found-in-Let.ensures)
+
+pub clause-returns-in_ok-test-in-Where-clause-same : goal.clause-returns-in_ok-test-in-Where-clause-same
+clause-returns-in_ok-test-in-Where-clause-same t c =
+    IfOk-weaker c.with_tests.result _ _
+    (λ after h. adds_at c.args.outer c.args.known.now.items c.args.next (clause.Where c.in-Where.test) c.args.found after c.expression-in-Where.new.known.items c.in-Where.is
+    (tests_add c.args.outer c.args.known.now.items c.expression-in-Where.new.known.items c.in-Where.test c.in_ok-test-in-Where.test c.args.found after
+    c.in_ok-test-in-Where.ensures.same c.in_ok-test-in-Where.ensures.kept
+    (subst (λ k. AddsTests k c.in_ok-test-in-Where.test c.args.found after) c.deref-in-Where.ensures.value h)))
+    c.with_tests.ensures
+
+pub clause-returns-in_ok-forget-in-Group-clause-same : goal.clause-returns-in_ok-forget-in-Group-clause-same
+clause-returns-in_ok-forget-in-Group-clause-same t c =
+    IfOk-weaker c.pushed-in-Group.result _ _
+    (λ after h. adds_at c.args.outer c.args.known.now.items c.args.next (clause.Group c.in-Group.slots) c.args.found after c.forget.new.known.items c.in-Group.is
+    (group_adds c.args.outer c.args.known.now.items c.forget.new.known.items c.in-Group.slots c.args.found after c.in_ok-forget-in-Group.ensures h))
+    c.pushed-in-Group.ensures
+
+pub clause-returns-in_ok-list-in-Order-clause-same : goal.clause-returns-in_ok-list-in-Order-clause-same
+clause-returns-in_ok-list-in-Order-clause-same t c =
+    IfOk-weaker c.pushed-in-Order.result _ _
+    (λ after h. adds_at c.args.outer c.args.known.now.items c.args.next (clause.Order c.in-Order.list) c.args.found after c.keys.new.known.items c.in-Order.is
+    (order_adds c.args.outer c.args.known.now.items c.keys.new.known.items c.in-Order.list c.in_ok-list-in-Order.list c.args.found after
+    c.in_ok-list-in-Order.ensures.same c.in_ok-list-in-Order.ensures.kept h))
+    c.pushed-in-Order.ensures
+
+pub clause-returns-in_ok-push-in-Count-clause-same : goal.clause-returns-in_ok-push-in-Count-clause-same
+clause-returns-in_ok-push-in-Count-clause-same t c =
+    IfOk-weaker c.pushed-in-Count.result _ _
+    (λ after h. adds_at c.args.outer c.args.known.now.items c.args.next clause.Count c.args.found after c.push.new.self.items c.in-Count.is
+    (count_adds c.args.outer c.args.known.now.items c.push.new.self.items c.args.found after c.in_ok-push-in-Count.ensures.items h))
+    c.pushed-in-Count.ensures

@@ -1,5 +1,8 @@
 use Rattle.std.proofs.Common.{◌+◌, ◌*◌, length}
+use Prim.Native.Nat.{max}
 use denote.Param.Weighed.{most}
+use Rattle.xq_meaning.specs.declared.plans.Plan.{size-Plan}
+use Rattle.xq_meaning.specs.declared.plans.PlanClause.{size-PlanClause}
 use Rattle.xq_optimise.specs.Same.{GivesSame}
 use Rattle.xq_optimise.specs.private.Parts.{SameOperand, SameCall, SameKey, SameStep}
 use Rattle.xq_optimise.proofs.Loops.{EachLeft, RangesLeft, ClausesLeft}
@@ -79,10 +82,10 @@ abbrev pub decreases-ranges : goal.decreases-ranges
 decreases-ranges a = 4 * goal.size-ranges a + 1
 
 abbrev pub decreases-flwor : goal.decreases-flwor
-decreases-flwor a = 4 * goal.size-flwor a + 3
+decreases-flwor a = 4 * max (most size-PlanClause a.list) (size-Plan a.part) + 2
 
 abbrev pub decreases-clauses : goal.decreases-clauses
-decreases-clauses a = 4 * goal.size-clauses a + 1
+decreases-clauses a = 4 * most size-PlanClause a.list + 1
 
 abbrev pub decreases-clause : goal.decreases-clause
-decreases-clause a = 4 * goal.size-clause a
+decreases-clause a = 4 * size-PlanClause a.next
