@@ -8,3 +8,4 @@ pub mod Loops
 pub mod Tests
 pub mod Below
 pub mod Conjuncts
+pub mod Documents

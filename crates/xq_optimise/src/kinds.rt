@@ -1,11 +1,15 @@
 //! What a part gives, as its form tells it (XQuery 3.1, section 2.2.3.1).
-ghost use Rattle.std.specs.Prelude.{◌≡◌, ◌<◌, Some, length, slice_get, true};
+ghost use Rattle.std.specs.Prelude.{◌≡◌, ◌<◌, ◌∷◌, [], Some, length, slice_get, true, false};
 ghost use Rattle.std.specs.List.{AllByRecursion};
+ghost use Rattle.xq_atoms.specs.Text.{Text};
+ghost use Rattle.xq_meaning.specs.declared.plans.Plan.TheVariants as plan_of;
+ghost use Rattle.xq_optimise.specs.Scans.{IsNoPathOfScans};
 ghost use Rattle.xq_optimise.specs.declared.held.Held.TheVariants.{Nodes};
 ghost use Rattle.xq_optimise.specs.private.Parts.{IsHeld, IsScan};
 
 use crate::held::Held;
 use sqlite_items::at;
+use xq_expressions::Function;
 use xq_meaning::{Plan, PlanStep};
 
 /// Whether a slot holds nodes alone, as known.
@@ -20,7 +24,8 @@ pub fn has_nodes(known: &[Held], slot: usize) -> bool
 
 /// Whether all steps are scans.
 pub fn are_scans(steps: &[PlanStep]) -> bool
-    ensures { result ≡ true → AllByRecursion IsScan steps.now }
+    ensures all { result ≡ true → AllByRecursion IsScan steps.now }
+    ensures none { result ≡ false → AllByRecursion IsScan steps.now → ⊥ }
 {
     for step in steps {
         let PlanStep::Scan(_, _) = step else {
@@ -28,6 +33,30 @@ pub fn are_scans(steps: &[PlanStep]) -> bool
         };
     }
     true
+}
+
+/// Whether the part is a document that a literal names.
+fn is_document(plan: &Plan) -> bool
+    ensures { result ≡ false → (address : Text)
+        → plan.now ≡ plan_of.Call Function.Doc (plan_of.Str address ∷ []) → ⊥ }
+{
+    let Plan::Call(Function::Doc, parts) = plan else {
+        return false;
+    };
+    let [Plan::Str(_)] = parts.as_slice() else {
+        return false;
+    };
+    true
+}
+
+/// Whether the plan is a path of scans from such a document.
+pub fn is_document_path(plan: &Plan) -> bool
+    ensures { result ≡ false → IsNoPathOfScans plan.now }
+{
+    let Plan::Path(start, steps) = plan else {
+        return false;
+    };
+    is_document(start.get()) && are_scans(steps.as_slice())
 }
 
 /// Whether a part is a slot of nodes, or ends in scans.

@@ -7,5 +7,5 @@ pub loop-step-preserved : goal.loop-step-preserved
 loop-step-preserved c =
     all_next IsScan c.args.steps.now c.loop-step.step-index c.step-item.result c.loop-step.invariant (omega arith) c.step-item.is (c.in-Scan.field-0, c.in-Scan.field-1, c.in-Scan.is)
 
-pub returns : goal.returns
-returns c = λ _. all_done IsScan c.args.steps.now c.loop-step.step-index (omega arith) c.loop-step.invariant
+pub returns-clause-all : goal.returns-clause-all
+returns-clause-all c = λ _. all_done IsScan c.args.steps.now c.loop-step.step-index (omega arith) c.loop-step.invariant

@@ -19,10 +19,10 @@ pub returns-then-has_nodes-clause-sure : goal.returns-then-has_nodes-clause-sure
 returns-then-has_nodes-clause-sure c = λ e.
     let found = path_at c.args.known.now c.args.plan.now c.in-Path.start c.in-Path.steps c.in-Slot-get.slot c.in-Path.is
     (sym c.get.ensures ∙ c.in-Slot-get.is) (c.if-has_nodes.ensures refl)
-    (subst (AllByRecursion IsScan) c.as_slice.ensures (c.are_scans.ensures e)) in found.0
+    (subst (AllByRecursion IsScan) c.as_slice.ensures (c.are_scans.ensures.all e)) in found.0
 
 pub returns-then-has_nodes-clause-below : goal.returns-then-has_nodes-clause-below
 returns-then-has_nodes-clause-below c = λ e.
     let found = path_at c.args.known.now c.args.plan.now c.in-Path.start c.in-Path.steps c.in-Slot-get.slot c.in-Path.is
     (sym c.get.ensures ∙ c.in-Slot-get.is) (c.if-has_nodes.ensures refl)
-    (subst (AllByRecursion IsScan) c.as_slice.ensures (c.are_scans.ensures e)) in found.1
+    (subst (AllByRecursion IsScan) c.as_slice.ensures (c.are_scans.ensures.all e)) in found.1
