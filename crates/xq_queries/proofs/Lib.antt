@@ -7,3 +7,4 @@ pub mod Back
 pub mod Ranges
 pub mod Asked
 pub mod DirectPlans
+pub mod Optimised

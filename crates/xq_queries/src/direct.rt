@@ -14,6 +14,7 @@ use xq_atoms::Want;
 use xq_expressions::{ConstructorName, Expr};
 use xq_meaning::{Core, Plan};
 use xq_normal::normalise;
+use xq_optimise::optimise;
 use xq_plan::plan;
 
 /// A plan that gives what the expression gives where no variable is bound. That of a path which
@@ -100,11 +101,13 @@ fn by_normal_form(alloc: Global, expr: &Expr) -> Result<Plan, Want>
     planned(alloc, core)
 }
 
-/// The plan of the normal form, which is let go here: its parts are dropped in one place.
+/// A plan of the normal form in a form that is evaluated fast. The normal form is let go here: its
+/// parts are dropped in one place.
 fn planned(alloc: Global, core: Core) -> Result<Plan, Want>
     ensures same { IfOk result (λ plan. IsPlan [] core plan) }
     ensures scans { IfOk result (λ plan. ScansDocument core plan) }
     ensures want { IfErr result (λ want. want ≡ Memory) }
 {
-    plan(alloc, &core)
+    let made = plan(alloc, &core)?;
+    optimise(alloc, made)
 }

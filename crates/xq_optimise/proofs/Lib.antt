@@ -1,0 +1,11 @@
+pub mod Elements
+pub mod Forms
+pub mod Fitting
+pub mod Scans
+pub mod Flwor
+pub mod Ranges
+pub mod Loops
+pub mod Tests
+pub mod Below
+pub mod Conjuncts
+pub mod Documents

@@ -1,0 +1,19 @@
+use Rattle.std.proofs.Common.{sym, subst}
+use Rattle.xq_optimise.specs.Sure.{SurelyTexts, ReadsBelow}
+use Rattle.xq_optimise.proofs.Tests.{string_is_text, nodes_are_texts}
+use Rattle.xq_optimise.proofs.Below.{string_below}
+use Rattle.xq_optimise.proofs.sure.is_texts.Goals as goal
+
+pub returns-in-Str-clause-sure : goal.returns-in-Str-clause-sure
+returns-in-Str-clause-sure c = λ e.
+    subst (SurelyTexts c.args.known.now) (sym c.in-Str.is) (string_is_text c.args.known.now c.in-Str.field-0)
+
+pub returns-in-Str-clause-below : goal.returns-in-Str-clause-below
+returns-in-Str-clause-below c = λ e.
+    subst (ReadsBelow c.args.known.now) (sym c.in-Str.is) (string_below c.args.known.now c.in-Str.field-0)
+
+pub returns-in_default : goal.returns-in_default
+returns-in_default c = record {
+  sure = λ e. nodes_are_texts c.args.known.now c.args.plan.now (c.is_nodes.ensures.sure e);
+  below = c.is_nodes.ensures.below;
+}

@@ -1,0 +1,206 @@
+use Rattle.std.proofs.Common.{◌≡◌, ◌<◌, ◌+◌, ◌*◌, ◌++◌, List, ◌∷◌, [], map, length, take, sym, ap, ◌∙◌, subst, refl, arith, rules}
+use Rattle.xq_meaning.specs.declared.plans.Plan.TheVariants as plan
+use Rattle.xq_meaning.specs.declared.plans.PlanClause.TheVariants as clause
+use Rattle.xq_meaning.specs.declared.plans.PlanStep.TheVariants as step
+use Rattle.xq_meaning.specs.declared.plans.PlanClause.{size-PlanClause}
+use denote.Param.Weighed.{most}
+use Rattle.std.proofs.lemmas.Result.{IfOk-weaker}
+use Rattle.xq_optimise.specs.Same.{GivesSame}
+use Rattle.xq_optimise.specs.private.Parts.{AreAll, SameOperand, SameCall, SameKey, SameStep, SameClause, SameClauses, SameRanges, IsHeld, Extends, AddsTests}
+use Rattle.xq_optimise.proofs.Forms as forms
+use Rattle.xq_optimise.proofs.Forms.{gives_at, known_at, all_known_at, itself, step_itself, each_gives}
+use Rattle.xq_optimise.proofs.Flwor.{flwor_gives}
+use Rattle.xq_optimise.proofs.Ranges.{quantified_gives, held_of_same}
+use Rattle.xq_optimise.proofs.Loops.{left_none, left_next, left_done, left_size, turned_size, no_ranges, range_next, ranges_done, no_clauses, clause_added, clauses_done, for_adds, let_adds, tests_add, order_adds, count_adds, group_adds, refused_adds, adds_at, extends_bound, extends_itself, extends_more, scope_left, ranges_left}
+use Rattle.xq_optimise.proofs.walk.+walk.Goals as goal
+
+pub expression-returns-in_ok-expressions-in-Sequence-clause-same : goal.expression-returns-in_ok-expressions-in-Sequence-clause-same
+expression-returns-in_ok-expressions-in-Sequence-clause-same t c =
+    gives_at c.args.known.now.items c.args.plan (plan.Sequence c.in-Sequence.list) (plan.Sequence c.in_ok-expressions-in-Sequence.field-0) c.in-Sequence.is
+    (forms.sequence_gives c.args.known.now.items c.in-Sequence.list c.in_ok-expressions-in-Sequence.field-0 c.in_ok-expressions-in-Sequence.ensures.same)
+
+pub expression-returns-in_ok-expressions-in-Or-clause-same : goal.expression-returns-in_ok-expressions-in-Or-clause-same
+expression-returns-in_ok-expressions-in-Or-clause-same t c =
+    gives_at c.args.known.now.items c.args.plan (plan.Or c.in-Or.list) (plan.Or c.in_ok-expressions-in-Or.field-0) c.in-Or.is
+    (forms.or_gives c.args.known.now.items c.in-Or.list c.in_ok-expressions-in-Or.field-0 c.in_ok-expressions-in-Or.ensures.same)
+
+pub expression-returns-in_ok-expressions-in-And-clause-same : goal.expression-returns-in_ok-expressions-in-And-clause-same
+expression-returns-in_ok-expressions-in-And-clause-same t c =
+    gives_at c.args.known.now.items c.args.plan (plan.And c.in-And.list) (plan.And c.in_ok-expressions-in-And.field-0) c.in-And.is
+    (forms.and_gives c.args.known.now.items c.in-And.list c.in_ok-expressions-in-And.field-0 c.in_ok-expressions-in-And.ensures.same)
+
+pub expression-returns-in_ok-expressions-in-Call-clause-same : goal.expression-returns-in_ok-expressions-in-Call-clause-same
+expression-returns-in_ok-expressions-in-Call-clause-same t c =
+    gives_at c.args.known.now.items c.args.plan (plan.Call c.in-Call.function c.in-Call.list) (plan.Call c.in-Call.function c.in_ok-expressions-in-Call.field-0) c.in-Call.is
+    (forms.call_gives c.args.known.now.items c.in-Call.function c.in-Call.list c.in_ok-expressions-in-Call.field-0 c.in_ok-expressions-in-Call.ensures.same)
+
+pub expression-returns-in_ok-operands-in-Chain-clause-same : goal.expression-returns-in_ok-operands-in-Chain-clause-same
+expression-returns-in_ok-operands-in-Chain-clause-same t c =
+    gives_at c.args.known.now.items c.args.plan (plan.Chain c.in-Chain.first c.in-Chain.more) (plan.Chain c.in_ok-first-in-Chain.first c.in_ok-operands-in-Chain.field-0) c.in-Chain.is
+    (forms.chain_gives c.args.known.now.items c.in-Chain.first c.in_ok-first-in-Chain.first c.in-Chain.more c.in_ok-operands-in-Chain.field-0 c.in_ok-first-in-Chain.ensures.same
+    (all_known_at SameOperand c.args.known.now.items c.boxed.new.known.items c.in-Chain.more c.in_ok-operands-in-Chain.field-0 c.in_ok-first-in-Chain.ensures.kept c.in_ok-operands-in-Chain.ensures.same))
+
+pub expression-returns-in_ok-expressions-in-Filter-clause-same : goal.expression-returns-in_ok-expressions-in-Filter-clause-same
+expression-returns-in_ok-expressions-in-Filter-clause-same t c =
+    gives_at c.args.known.now.items c.args.plan (plan.Filter c.in-Filter.start c.in-Filter.predicates) (plan.Filter c.in_ok-start-in-Filter.start c.in_ok-expressions-in-Filter.field-0) c.in-Filter.is
+    (forms.filter_gives c.args.known.now.items c.in-Filter.start c.in_ok-start-in-Filter.start c.in-Filter.predicates c.in_ok-expressions-in-Filter.field-0 c.in_ok-start-in-Filter.ensures.same
+    (all_known_at GivesSame c.args.known.now.items c.boxed-in-Filter.new.known.items c.in-Filter.predicates c.in_ok-expressions-in-Filter.field-0 c.in_ok-start-in-Filter.ensures.kept c.in_ok-expressions-in-Filter.ensures.same))
+
+pub expression-returns-in_ok-steps-in-Path-clause-same : goal.expression-returns-in_ok-steps-in-Path-clause-same
+expression-returns-in_ok-steps-in-Path-clause-same t c =
+    gives_at c.args.known.now.items c.args.plan (plan.Path c.in-Path.start c.in-Path.list) (plan.Path c.in_ok-start-in-Path.start c.in_ok-steps-in-Path.field-0) c.in-Path.is
+    (forms.path_gives c.args.known.now.items c.in-Path.start c.in_ok-start-in-Path.start c.in-Path.list c.in_ok-steps-in-Path.field-0 c.in_ok-start-in-Path.ensures.same
+    (all_known_at SameStep c.args.known.now.items c.boxed-in-Path.new.known.items c.in-Path.list c.in_ok-steps-in-Path.field-0 c.in_ok-start-in-Path.ensures.kept c.in_ok-steps-in-Path.ensures.same))
+
+pub expression-returns-in_ok-calls-in-Arrow-clause-same : goal.expression-returns-in_ok-calls-in-Arrow-clause-same
+expression-returns-in_ok-calls-in-Arrow-clause-same t c =
+    gives_at c.args.known.now.items c.args.plan (plan.Arrow c.in-Arrow.first c.in-Arrow.list) (plan.Arrow c.in_ok-first-in-Arrow.first c.in_ok-calls-in-Arrow.field-0) c.in-Arrow.is
+    (forms.arrow_gives c.args.known.now.items c.in-Arrow.first c.in_ok-first-in-Arrow.first c.in-Arrow.list c.in_ok-calls-in-Arrow.field-0 c.in_ok-first-in-Arrow.ensures.same
+    (all_known_at SameCall c.args.known.now.items c.boxed-in-Arrow.new.known.items c.in-Arrow.list c.in_ok-calls-in-Arrow.field-0 c.in_ok-first-in-Arrow.ensures.kept c.in_ok-calls-in-Arrow.ensures.same))
+
+pub expression-returns-in_ok-expressions-in-Map-clause-same : goal.expression-returns-in_ok-expressions-in-Map-clause-same
+expression-returns-in_ok-expressions-in-Map-clause-same t c =
+    gives_at c.args.known.now.items c.args.plan (plan.Map c.in-Map.start c.in-Map.list) (plan.Map c.in_ok-start-in-Map.start c.in_ok-expressions-in-Map.field-0) c.in-Map.is
+    (forms.map_gives c.args.known.now.items c.in-Map.start c.in_ok-start-in-Map.start c.in-Map.list c.in_ok-expressions-in-Map.field-0 c.in_ok-start-in-Map.ensures.same
+    (all_known_at GivesSame c.args.known.now.items c.boxed-in-Map.new.known.items c.in-Map.list c.in_ok-expressions-in-Map.field-0 c.in_ok-start-in-Map.ensures.kept c.in_ok-expressions-in-Map.ensures.same))
+
+pub expression-returns-in_ok-boxed-in-Unary-clause-same : goal.expression-returns-in_ok-boxed-in-Unary-clause-same
+expression-returns-in_ok-boxed-in-Unary-clause-same t c =
+    gives_at c.args.known.now.items c.args.plan (plan.Unary c.in-Unary.signs c.in-Unary.part) (plan.Unary c.in-Unary.signs c.in_ok-boxed-in-Unary.field-0) c.in-Unary.is
+    (forms.unary_gives c.args.known.now.items c.in-Unary.signs c.in-Unary.part c.in_ok-boxed-in-Unary.field-0 c.in_ok-boxed-in-Unary.ensures.same)
+
+pub expression-returns-in_ok-predicates-in-Step-clause-same : goal.expression-returns-in_ok-predicates-in-Step-clause-same
+expression-returns-in_ok-predicates-in-Step-clause-same t c =
+    gives_at c.args.known.now.items c.args.plan (plan.Step c.in-Step.axis c.in-Step.test c.in-Step.predicates) (plan.Step c.in-Step.axis c.in-Step.test c.in_ok-predicates-in-Step.predicates) c.in-Step.is
+    (forms.step_gives c.args.known.now.items c.in-Step.axis c.in-Step.test c.in-Step.predicates c.in_ok-predicates-in-Step.predicates c.in_ok-predicates-in-Step.ensures.same)
+
+pub expression-returns-in_ok-negative-in-If-clause-same : goal.expression-returns-in_ok-negative-in-If-clause-same
+expression-returns-in_ok-negative-in-If-clause-same t c =
+    subst (λ p. GivesSame c.args.known.now.items c.args.plan p) (sym c.conditional.ensures)
+    (gives_at c.args.known.now.items c.args.plan (plan.If c.in-If.test c.in-If.positive c.in-If.negative) (plan.If c.in_ok-test-in-If.test c.in_ok-positive-in-If.positive c.in_ok-negative-in-If.negative) c.in-If.is
+    (forms.if_gives c.args.known.now.items c.in-If.test c.in-If.positive c.in-If.negative c.in_ok-test-in-If.test c.in_ok-positive-in-If.positive c.in_ok-negative-in-If.negative
+    c.in_ok-test-in-If.ensures.same
+    (known_at c.args.known.now.items c.boxed-in-If.new.known.items c.in-If.positive c.in_ok-positive-in-If.positive c.in_ok-test-in-If.ensures.kept c.in_ok-positive-in-If.ensures.same)
+    (known_at c.args.known.now.items c.boxed-in-If-2.new.known.items c.in-If.negative c.in_ok-negative-in-If.negative (c.in_ok-positive-in-If.ensures.kept ∙ c.in_ok-test-in-If.ensures.kept) c.in_ok-negative-in-If.ensures.same)))
+
+pub expression-returns-in_ok-boxed-in-Named-clause-same : goal.expression-returns-in_ok-boxed-in-Named-clause-same
+expression-returns-in_ok-boxed-in-Named-clause-same t c =
+    gives_at c.args.known.now.items c.args.plan (plan.Named c.in-Named.node c.in-Named.name c.in-Named.content) (plan.Named c.in-Named.node c.in_ok-name-in-Named.name c.in_ok-boxed-in-Named.field-0) c.in-Named.is
+    (forms.named_gives c.args.known.now.items c.in-Named.node c.in-Named.name c.in-Named.content c.in_ok-name-in-Named.name c.in_ok-boxed-in-Named.field-0 c.in_ok-name-in-Named.ensures.same
+    (known_at c.args.known.now.items c.boxed-in-Named.new.known.items c.in-Named.content c.in_ok-boxed-in-Named.field-0 c.in_ok-name-in-Named.ensures.kept c.in_ok-boxed-in-Named.ensures.same))
+
+pub expression-returns-in_ok-boxed-in-Unnamed-clause-same : goal.expression-returns-in_ok-boxed-in-Unnamed-clause-same
+expression-returns-in_ok-boxed-in-Unnamed-clause-same t c =
+    gives_at c.args.known.now.items c.args.plan (plan.Unnamed c.in-Unnamed.node c.in-Unnamed.content) (plan.Unnamed c.in-Unnamed.node c.in_ok-boxed-in-Unnamed.field-0) c.in-Unnamed.is
+    (forms.unnamed_gives c.args.known.now.items c.in-Unnamed.node c.in-Unnamed.content c.in_ok-boxed-in-Unnamed.field-0 c.in_ok-boxed-in-Unnamed.ensures.same)
+
+pub expression-returns-in_ok-part-in-Quantified-clause-same : goal.expression-returns-in_ok-part-in-Quantified-clause-same
+expression-returns-in_ok-part-in-Quantified-clause-same t c =
+    gives_at c.args.known.now.items c.args.plan (plan.Quantified c.in-Quantified.quantifier c.in-Quantified.list c.in-Quantified.part) (plan.Quantified c.in-Quantified.quantifier c.in_ok-list-in-Quantified.list c.in_ok-part-in-Quantified.part) c.in-Quantified.is
+    (quantified_gives c.args.known.now.items c.ranges-in-Quantified.new.known.items c.in-Quantified.quantifier c.in-Quantified.list c.in_ok-list-in-Quantified.list c.in-Quantified.part c.in_ok-part-in-Quantified.part
+    c.in_ok-list-in-Quantified.ensures.same c.in_ok-part-in-Quantified.ensures.same)
+
+pub expression-returns-in_ok-part-in-Quantified-clause-kept : goal.expression-returns-in_ok-part-in-Quantified-clause-kept
+expression-returns-in_ok-part-in-Quantified-clause-kept t c =
+    ranges_left c.len-outer.result c.args.known.now.items c.ranges-in-Quantified.new.known.items c.boxed-in-Quantified.new.known.items c.truncate.new.self.items c.in-Quantified.list c.in_ok-list-in-Quantified.list
+    (c.len-outer.ensures ∙ c.args.known.now.ok.0) c.in_ok-list-in-Quantified.ensures.same c.in_ok-part-in-Quantified.ensures.kept c.truncate.ensures.items
+
+-- # Loops
+
+pub expressions-loop-part-preserved : goal.expressions-loop-part-preserved
+expressions-loop-part-preserved t c =
+    left_next GivesSame c.args.list c.loop-part.left c.pop.new.self c.args.known.now.items c.loop-part.known.items c.expression.new.known.items c.loop-part.found.items c.push.new.self.items c.in-Some.part c.in_ok-expression.field-0
+    c.loop-part.invariant c.in-Some.ensures c.in_ok-expression.ensures.same c.in_ok-expression.ensures.kept c.in_ok-push.ensures.items
+
+pub operands-loop-operator-preserved : goal.operands-loop-operator-preserved
+operands-loop-operator-preserved t c =
+    left_next SameOperand c.args.list c.loop-operator.left c.pop.new.self c.args.known.now.items c.loop-operator.known.items c.expression.new.known.items c.loop-operator.found.items c.push.new.self.items (c.in-Some.operator, c.in-Some.operand) (c.in-Some.operator, c.in_ok-operand.operand)
+    c.loop-operator.invariant c.in-Some.ensures (refl, c.in_ok-operand.ensures.same) c.in_ok-operand.ensures.kept c.in_ok-push.ensures.items
+
+pub steps-loop-part-preserved : goal.steps-loop-part-preserved
+steps-loop-part-preserved t c =
+    left_next SameStep c.args.list c.loop-part.left c.pop.new.self c.args.known.now.items c.loop-part.known.items c.step.new.known.items c.loop-part.found.items c.push.new.self.items c.in-Some.part c.in_ok-step.field-0
+    c.loop-part.invariant c.in-Some.ensures c.in_ok-step.ensures.same c.in_ok-step.ensures.kept c.in_ok-push.ensures.items
+
+pub keys-loop-key-preserved : goal.keys-loop-key-preserved
+keys-loop-key-preserved t c =
+    left_next SameKey c.args.list c.loop-key.left c.pop.new.self c.args.known.now.items c.loop-key.known.items c.expression.new.known.items c.loop-key.found.items c.push.new.self.items (c.in-Some.key, c.in-Some.modifier) (c.in_ok-key.key, c.in-Some.modifier)
+    c.loop-key.invariant c.in-Some.ensures (c.in_ok-key.ensures.same, refl) c.in_ok-key.ensures.kept c.in_ok-push.ensures.items
+
+pub step-returns-in_ok-expression-in-Each-clause-same : goal.step-returns-in_ok-expression-in-Each-clause-same
+step-returns-in_ok-expression-in-Each-clause-same t c =
+    subst (λ s. SameStep c.args.known.now.items s (step.Each c.in_ok-expression-in-Each.field-0)) (sym c.in-Each.is)
+    (each_gives c.args.known.now.items c.in-Each.part c.in_ok-expression-in-Each.field-0 c.in_ok-expression-in-Each.ensures.same)
+
+pub ranges-loop-range-preserved : goal.ranges-loop-range-preserved
+ranges-loop-range-preserved t c =
+    range_next c.args.list c.loop-range.left.items c.pop.new.self.items c.args.known.now.items c.expression.new.known.items c.loop-range.known.items c.bind.new.known.items c.loop-range.found c.push.new.self c.in-Some.range c.in_ok-range.range
+    c.loop-range.invariant c.in-Some.ensures.items c.in_ok-range.ensures.same c.in_ok-range.ensures.kept c.held_by-held.result
+    (subst (λ k. IsHeld k c.held_by-held.result c.in_ok-range.range) c.deref.ensures.value c.held_by-held.ensures) c.in_ok-bind.ensures c.in_ok-push.ensures.ok
+
+-- # Clauses
+
+pub flwor-returns-clause-same : goal.flwor-returns-clause-same
+flwor-returns-clause-same t c =
+    flwor_gives c.args.known.now.items c.clauses.new.known.items c.args.list c.in_ok-list.list c.args.part c.in_ok-part.part
+    (subst (λ n. SameClauses n c.args.known.now.items c.args.list c.in_ok-list.list c.clauses.new.known.items) (c.len-outer.ensures ∙ c.args.known.now.ok.0) c.in_ok-list.ensures.same)
+    c.in_ok-part.ensures.same
+
+pub clauses-loop-next-preserved : goal.clauses-loop-next-preserved
+clauses-loop-next-preserved t c =
+    clause_added c.args.list c.loop-next.left.items c.pop.new.self.items c.args.outer c.args.known.now.items c.loop-next.known.items c.clause.new.known.items c.loop-next.found c.in_ok-found.found c.in-Some.next
+    c.loop-next.invariant c.in-Some.ensures.items c.in_ok-found.ensures.same c.in_ok-found.ensures.outer
+
+pub clauses-clause-requires : goal.clauses-clause-requires
+clauses-clause-requires t c =
+    let at : 4 * most size-PlanClause c.args.list + 1 ≡ t = c.decreases in
+    let among = turned_size size-PlanClause c.args.list c.loop-next.left.items c.loop-next.invariant.taken c.pop.new.self.items c.in-Some.next c.loop-next.invariant.whole c.in-Some.ensures.items in
+    let below : 4 * size-PlanClause c.in-Some.next < t = omega (arith, at, among) in
+    (below, c.loop-next.invariant.outer.within)
+
+-- # What a clause adds
+
+pub clause-returns-in_ok-bind-in-For-clause-same : goal.clause-returns-in_ok-bind-in-For-clause-same
+clause-returns-in_ok-bind-in-For-clause-same t c =
+    adds_at c.args.outer c.args.known.now.items c.args.next (clause.For c.in-For.empties c.in-For.at c.in-For.range) c.args.found c.in_ok-found-in-For.found c.bind.new.known.items c.in-For.is
+    (for_adds c.args.outer c.args.known.now.items c.expression.new.known.items c.bind.new.known.items c.in-For.empties c.in-For.at c.in-For.range c.in_ok-range-in-For.range c.args.found c.in_ok-found-in-For.found
+    c.in_ok-range-in-For.ensures.same c.in_ok-range-in-For.ensures.kept c.held_by-held.result
+    (subst (λ k. IsHeld k c.held_by-held.result c.in_ok-range-in-For.range) c.deref.ensures.value c.held_by-held.ensures) c.in_ok-bind-in-For.ensures c.in_ok-found-in-For.ensures)
+
+pub clause-returns-in_ok-bind-in-Let-clause-same : goal.clause-returns-in_ok-bind-in-Let-clause-same
+clause-returns-in_ok-bind-in-Let-clause-same t c =
+    adds_at c.args.outer c.args.known.now.items c.args.next (clause.Let c.in-Let.value) c.args.found c.in_ok-found-in-Let.found c.bind-in-Let.new.known.items c.in-Let.is
+    (let_adds c.args.outer c.args.known.now.items c.expression-in-Let.new.known.items c.bind-in-Let.new.known.items c.in-Let.value c.in_ok-value-in-Let.value c.args.found c.in_ok-found-in-Let.found
+    c.in_ok-value-in-Let.ensures.same c.in_ok-value-in-Let.ensures.kept c.held_by-held-in-Let.result
+    (subst (λ k. IsHeld k c.held_by-held-in-Let.result c.in_ok-value-in-Let.value) c.deref-in-Let.ensures.value c.held_by-held-in-Let.ensures) c.in_ok-bind-in-Let.ensures c.in_ok-found-in-Let.ensures)
+
+pub clause-returns-in_ok-test-in-Where-clause-same : goal.clause-returns-in_ok-test-in-Where-clause-same
+clause-returns-in_ok-test-in-Where-clause-same t c =
+    IfOk-weaker c.with_tests.result _ _
+    (λ after h. adds_at c.args.outer c.args.known.now.items c.args.next (clause.Where c.in-Where.test) c.args.found after c.expression-in-Where.new.known.items c.in-Where.is
+    (tests_add c.args.outer c.args.known.now.items c.expression-in-Where.new.known.items c.in-Where.test c.in_ok-test-in-Where.test c.args.found after
+    c.in_ok-test-in-Where.ensures.same c.in_ok-test-in-Where.ensures.kept
+    (subst (λ k. AddsTests k c.in_ok-test-in-Where.test c.args.found after) c.deref-in-Where.ensures.value h)))
+    c.with_tests.ensures
+
+pub clause-returns-in_ok-forget-in-Group-clause-same : goal.clause-returns-in_ok-forget-in-Group-clause-same
+clause-returns-in_ok-forget-in-Group-clause-same t c =
+    IfOk-weaker c.pushed-in-Group.result _ _
+    (λ after h. adds_at c.args.outer c.args.known.now.items c.args.next (clause.Group c.in-Group.slots) c.args.found after c.forget.new.known.items c.in-Group.is
+    (group_adds c.args.outer c.args.known.now.items c.forget.new.known.items c.in-Group.slots c.args.found after c.in_ok-forget-in-Group.ensures h))
+    c.pushed-in-Group.ensures
+
+pub clause-returns-in_ok-list-in-Order-clause-same : goal.clause-returns-in_ok-list-in-Order-clause-same
+clause-returns-in_ok-list-in-Order-clause-same t c =
+    IfOk-weaker c.pushed-in-Order.result _ _
+    (λ after h. adds_at c.args.outer c.args.known.now.items c.args.next (clause.Order c.in-Order.list) c.args.found after c.keys.new.known.items c.in-Order.is
+    (order_adds c.args.outer c.args.known.now.items c.keys.new.known.items c.in-Order.list c.in_ok-list-in-Order.list c.args.found after
+    c.in_ok-list-in-Order.ensures.same c.in_ok-list-in-Order.ensures.kept h))
+    c.pushed-in-Order.ensures
+
+pub clause-returns-in_ok-push-in-Count-clause-same : goal.clause-returns-in_ok-push-in-Count-clause-same
+clause-returns-in_ok-push-in-Count-clause-same t c =
+    IfOk-weaker c.pushed-in-Count.result _ _
+    (λ after h. adds_at c.args.outer c.args.known.now.items c.args.next clause.Count c.args.found after c.push.new.self.items c.in-Count.is
+    (count_adds c.args.outer c.args.known.now.items c.push.new.self.items c.args.found after c.in_ok-push-in-Count.ensures.items h))
+    c.pushed-in-Count.ensures

@@ -1,0 +1,5 @@
+pub mod Known
+pub mod Same
+pub mod Scans
+pub mod Sure
+pub mod private

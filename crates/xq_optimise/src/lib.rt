@@ -1,0 +1,33 @@
+//! Plans that give the same in a form that is evaluated fast.
+#![tactic(auto)]
+
+ghost use Rattle.std.specs.Prelude.{◌≡◌, [], IfErr, IfOk};
+ghost use Rattle.xq_atoms.specs.declared.refusals.Want.TheVariants.{Memory};
+ghost use Rattle.xq_optimise.specs.Same.{GivesSame};
+ghost use Rattle.xq_optimise.specs.Scans.{KeepsScans};
+
+mod held;
+mod kinds;
+mod lists;
+mod sure;
+mod walk;
+mod wheres;
+
+use kinds::is_document_path;
+use std::alloc::Global;
+use xq_atoms::Want;
+use xq_meaning::Plan;
+
+/// A plan that gives what the plan gives where no slot is open: whatever the focus, the addresses
+/// and the documents are, the value or the code is the same, and so are the trees then. A path of
+/// scans from a document is left as it is. It refuses only for want of memory.
+pub fn optimise(alloc: Global, plan: Plan) -> Result<Plan, Want>
+    ensures same { IfOk result (λ found. GivesSame [] plan found) }
+    ensures scans { IfOk result (λ found. KeepsScans plan found) }
+    ensures want { IfErr result (λ want. want ≡ Memory) }
+{
+    if is_document_path(&plan) {
+        return Ok(plan);
+    }
+    Ok(walk::expression(alloc, &mut Vec::new(alloc), plan)?)
+}
