@@ -107,12 +107,11 @@ module _ (known : List Held) (slots : Slots) (focus : Option Focus) (addresses :
   wheres_told (p ∷ ps) all ts w =
       let first = answers p all.0 ts w in
       let rest = wheres_told ps all.1 (satisfying ts first.0) (kept_all (λ t. Fits known (slots ++ t)) ts first.0 w) in
-      let both = merged_tells (plan_mean p) (map plan_mean ps) ts first.0 rest.0 first.1 rest.1 in
-      (
+      let both = merged_tells (plan_mean p) (map plan_mean ps) ts first.0 rest.0 first.1 rest.1 in (
         merged first.0 rest.0,
         both.0,
         ap (λ o. go_on o (λ n. in_turn (next_clause frame) n (map plan_clause_mean (map clause.Where ps)))) (where_told p ts first.0 first.1)
-        ∙ rest.2 ∙ ap (λ l. (Ok l, f)) (sym both.1),
+            ∙ rest.2 ∙ ap (λ l. (Ok l, f)) (sym both.1),
       )
 
   pub conjunction_told : (ps : List Plan) (ts : List (Tuple Item)) (cs : List Bool) →

@@ -67,8 +67,7 @@ pub scans_from : (frame : Frame) (steps : List PlanStep) → AllByRecursion IsSc
 scans_from frame [] all ps f = (ps, refl)
 scans_from frame (s ∷ steps) all ps f =
     let first = step_from frame s all.0 ps f in
-    let rest = scans_from frame steps all.1 first.0 f in
-    (
+    let rest = scans_from frame steps all.1 first.0 f in (
       rest.0,
       ap (λ o. go_on o (λ xs. in_turn (next_step frame) xs (map plan_step_mean steps))) first.1 ∙ rest.1,
     )
@@ -148,11 +147,10 @@ pub path_surely : (known : List Held) (start : Plan) (steps : List PlanStep) →
 path_surely known start steps h all slots focus addresses trees fits =
     let frame = frame_of slots focus addresses in
     let first = h slots focus addresses trees fits in
-    let rest = scans_from frame steps all first.0 trees in
-    (
+    let rest = scans_from frame steps all first.0 trees in (
       rest.0,
       ap (λ m. m frame trees) (plan_eq.plan-Path start steps)
-      ∙ ap (λ o. go_on o (λ xs. in_turn (next_step frame) xs (map plan_step_mean steps))) first.1 ∙ rest.1,
+          ∙ ap (λ o. go_on o (λ xs. in_turn (next_step frame) xs (map plan_step_mean steps))) first.1 ∙ rest.1,
     )
 
 pub anything_held : (known : List Held) (p : Plan) → IsHeld known Anything p

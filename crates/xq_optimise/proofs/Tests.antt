@@ -97,8 +97,7 @@ nodes_true (p ∷ ps) = (true, refl)
 pub nodes_tell : (known : List Held) (p : Plan) → SurelyNodes known p → SurelyTells known p
 nodes_tell known p h slots focus addresses trees fits =
     let found = h slots focus addresses trees fits in
-    let tells = nodes_true found.0 in
-    (
+    let tells = nodes_true found.0 in (
       tells.0,
       ap (λ o. go_on o (λ xs. judged (effective xs))) found.1 ∙ ap (λ r. (r, trees)) tells.1,
     )
@@ -110,13 +109,12 @@ comparison_tells known relation p q h k slots focus addresses trees fits =
     let op = operator.Comparison (comparing.General relation) in
     let first = h slots focus addresses trees fits in
     let second = k slots focus addresses trees fits in
-    let tells = pairs_compare (related_by relation) (atomized trees first.0) (atomized trees second.0) first.1 second.1 in
-    (
+    let tells = pairs_compare (related_by relation) (atomized trees first.0) (atomized trees second.0) first.1 second.1 in (
       tells.0,
       ap (λ m. Forms.tested m frame trees) (plan_eq.plan-Chain p ((op, q) ∷ []))
-      ∙ ap (λ o. go_on (go_on o (λ xs. in_turn (Forms.next_operand frame) xs ((op, plan_mean q) ∷ []))) (λ xs. judged (effective xs))) first.2
-      ∙ ap (λ o. go_on (go_on (go_on o (λ ys. on_trees (λ ts. operated op ts first.0 ys))) (λ xs. give xs)) (λ xs. judged (effective xs))) second.2
-      ∙ ap (λ r. go_on (go_on (as_boolean r, trees) (λ xs. give xs)) (λ xs. judged (effective xs))) tells.1,
+          ∙ ap (λ o. go_on (go_on o (λ xs. in_turn (Forms.next_operand frame) xs ((op, plan_mean q) ∷ []))) (λ xs. judged (effective xs))) first.2
+          ∙ ap (λ o. go_on (go_on (go_on o (λ ys. on_trees (λ ts. operated op ts first.0 ys))) (λ xs. give xs)) (λ xs. judged (effective xs))) second.2
+          ∙ ap (λ r. go_on (go_on (as_boolean r, trees) (λ xs. give xs)) (λ xs. judged (effective xs))) tells.1,
     )
 
 -- # Conjunctions

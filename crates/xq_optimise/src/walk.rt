@@ -15,11 +15,7 @@ use xq_meaning::{Operator, Plan, PlanClause, PlanStep};
 
 /// A plan that gives the same where the slots are as known.
 #[cycle(walk)]
-pub fn expression(
-    alloc: Global,
-    known: &mut Vec<Held>,
-    plan: Plan,
-) -> Result<Plan, AllocError>
+pub fn expression(alloc: Global, known: &mut Vec<Held>, plan: Plan) -> Result<Plan, AllocError>
     ensures same { IfOk result (λ found. GivesSame known.old.items plan found) }
     ensures kept { OnOk result (known.new.items ≡ known.old.items) }
 {
@@ -27,9 +23,7 @@ pub fn expression(
         Plan::Sequence(list) => Ok(Plan::Sequence(expressions(alloc, known, list)?)),
         Plan::Or(list) => Ok(Plan::Or(expressions(alloc, known, list)?)),
         Plan::And(list) => Ok(Plan::And(expressions(alloc, known, list)?)),
-        Plan::Call(function, list) => {
-            Ok(Plan::Call(function, expressions(alloc, known, list)?))
-        }
+        Plan::Call(function, list) => { Ok(Plan::Call(function, expressions(alloc, known, list)?)) }
         Plan::Chain(first, more) => {
             let first = boxed(alloc, known, first)?;
             Ok(Plan::Chain(first, operands(alloc, known, more)?))
@@ -80,11 +74,7 @@ pub fn expression(
 
 /// A part of another plan.
 #[cycle(walk)]
-fn boxed(
-    alloc: Global,
-    known: &mut Vec<Held>,
-    plan: Boxed<Plan>,
-) -> Result<Boxed<Plan>, AllocError>
+fn boxed(alloc: Global, known: &mut Vec<Held>, plan: Boxed<Plan>) -> Result<Boxed<Plan>, AllocError>
     ensures same { IfOk result (λ found. GivesSame known.old.items plan found) }
     ensures kept { OnOk result (known.new.items ≡ known.old.items) }
 {

@@ -13,10 +13,7 @@ use std::alloc::{AllocError, Global};
 use xq_meaning::{Plan, PlanClause};
 
 /// The clauses with one more.
-pub fn pushed(
-    found: Items<PlanClause>,
-    clause: PlanClause,
-) -> Result<Items<PlanClause>, AllocError>
+pub fn pushed(found: Items<PlanClause>, clause: PlanClause) -> Result<Items<PlanClause>, AllocError>
     ensures { IfOk result (λ after. after ≡ found ++ clause ∷ []) }
 {
     let mut after = found;

@@ -37,10 +37,12 @@ fn main(rt: HostRuntime) -> ExitCode {
 fn conclusion(rt: &HostRuntime) -> (u8, &'static str) {
     match asked_by_arguments(rt) {
         Asked::Serve(Task { file: None, kept }) => serve_in_memory(rt, kept),
-        Asked::Serve(Task {
-            file: Some(path),
-            kept,
-        }) => serve_in_file(rt, path.as_str(), kept),
+        Asked::Serve(
+            Task {
+                file: Some(path),
+                kept,
+            },
+        ) => serve_in_file(rt, path.as_str(), kept),
         Asked::Help(text) => outcome(print_help(rt, text.as_str())),
         Asked::Bad => (2, "xq_server: bad command line"),
         Asked::NoRoom => outcome(End::NoRoom),
@@ -110,7 +112,15 @@ fn serve_in_file(rt: &HostRuntime, path: &str, kept: Option<usize>) -> (u8, &'st
         return outcome(End::NoRoom);
     };
     let (mut reader, mut writer) = (Counted::new(reader), Counted::new(io::writer(rt)));
-    match serve_file(rt, path, Unknown, kept, &mut reader, &mut writer, MAX_FRAMES) {
+    match serve_file(
+        rt,
+        path,
+        Unknown,
+        kept,
+        &mut reader,
+        &mut writer,
+        MAX_FRAMES,
+    ) {
         Some((end, _files)) => outcome(end),
         None => CANNOT_OPEN,
     }
