@@ -36,13 +36,10 @@ fn main(rt: HostRuntime) -> ExitCode {
 /// Does the program's work, and gives its exit status and its line on standard error.
 fn conclusion(rt: &HostRuntime) -> (u8, &'static str) {
     match asked_by_arguments(rt) {
-        Asked::Serve(Task { file: None, kept }) => serve_in_memory(rt, kept),
-        Asked::Serve(
-            Task {
-                file: Some(path),
-                kept,
-            },
-        ) => serve_in_file(rt, path.as_str(), kept),
+        Asked::Serve(Task { file, kept }) => match file {
+            Some(path) => serve_in_file(rt, path.as_str(), kept),
+            None => serve_in_memory(rt, kept),
+        },
         Asked::Help(text) => outcome(print_help(rt, text.as_str())),
         Asked::Bad => (2, "xq_server: bad command line"),
         Asked::NoRoom => outcome(End::NoRoom),
