@@ -84,6 +84,8 @@ def definitions_of(text: str) -> dict[str, list[str]]:
             if not line.strip():
                 comment = []
             continue
+        if line.startswith("module "):
+            name = None
         head = BEGIN.match(line)
         declared = HEAD.match(line)
         words = re.match(r" *(abbrev|unfoldable|pub|record|data|abstract)\b", line)
