@@ -98,7 +98,7 @@ class Backend:
             await backend._probe(command, answered)
         except BaseException:
             backend.kill()
-            await backend.ended.wait()
+            await asyncio.wait((backend._task,))  # (which may have been cancelled, too)
             raise
         backend._on_reply, backend._seconds = on_reply, seconds
         return backend
