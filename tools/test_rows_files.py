@@ -128,7 +128,7 @@ class FileTest(OverFile):
         os.rmdir(self.path)
 
     def check_pages(self, made: list[str], size: int) -> None:
-        """Checks that a document is stored and found on pages of this size, which stock SQLite reads."""
+        """Checks that pages of this size store a document, and that stock SQLite reads them."""
         self.clear()
         make(self.path, made)
         self.check_rows("stored", [{"put": "library", "reply": "stored"}])
