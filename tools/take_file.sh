@@ -6,7 +6,8 @@
 #
 # OLD, with its log OLD-wal where there is one, is only read; no server may hold it. NEW must not be
 # there yet. The rows go over as they are, in the tables of OLD's edition, and the server judges
-# them as it opens NEW: where they are not those of documents, it still refuses.
+# them as it opens NEW: where they are not those of documents, it still refuses. NEW has pages of
+# 1,024 bytes, as new files of the server have, and no sums.
 set -eu
 if [ $# != 2 ] || [ ! -f "$1" ] || [ -e "$2" ]; then
     echo "usage: tools/take_file.sh OLD NEW, where OLD is a file and NEW is not there" >&2
@@ -24,6 +25,7 @@ cd "$room"
 edition=$(sqlite3 -bail old.db 'SELECT edition FROM layout')
 if [ "$edition" = 1 ]; then
     sqlite3 -bail new.db <<'SQL'
+PRAGMA page_size = 1024;
 ATTACH 'old.db' AS old;
 BEGIN;
 CREATE TABLE layout (edition INTEGER NOT NULL) STRICT;
@@ -37,6 +39,7 @@ SQL
     table=node
 else
     sqlite3 -bail new.db <<'SQL'
+PRAGMA page_size = 1024;
 ATTACH 'old.db' AS old;
 BEGIN;
 CREATE TABLE layout (edition INTEGER NOT NULL) STRICT;
