@@ -50,6 +50,33 @@ def run(
         return started.returncode
 
 
+def run_side_by_side(
+    commands: Sequence[Sequence[str | os.PathLike[str]]], log: IO[bytes], at_once: int
+) -> list[int]:
+    """Runs commands on no input, so many at once, and gives their exit statuses in this order.
+
+    All that they say goes into the log. Where this process is interrupted, or the one that started
+    it has ended, those that still run are ended first.
+
+    Raises OSError where one does not start, and SystemExit where the parent has ended."""
+    started: list[subprocess.Popen[bytes]] = []
+    left = list(commands)
+    try:
+        while left or any(it.poll() is None for it in started):
+            if os.getppid() != PARENT:
+                sys.exit(1)
+            while left and sum(it.poll() is None for it in started) < at_once:
+                started.append(subprocess.Popen(
+                    left.pop(0), stdin=subprocess.DEVNULL, stdout=log, stderr=subprocess.STDOUT))
+            time.sleep(SECONDS_BETWEEN_LOOKS)
+    finally:
+        for it in started:
+            it.terminate()
+        for it in started:
+            it.wait()
+    return [it.returncode for it in started]
+
+
 def lone(path: pathlib.Path, wait: Callable[[], None]) -> IO[str]:
     """Waits until no other process holds this file; others wait until what is given is closed.
 
