@@ -22,7 +22,7 @@ use Rattle.xq_meaning.proofs.SameForms.{AreRelated, then_same, in_turn_same, cha
 use Rattle.xq_optimise.specs.declared.held.Held.{Held}
 use Rattle.xq_optimise.specs.Known.{Fits}
 use Rattle.xq_optimise.specs.declared.held.Held.TheVariants.{Nodes}
-use Rattle.xq_optimise.specs.Sure.{SurelyNodes, SurelyTexts, ReadsBelow, IsTest}
+use Rattle.xq_optimise.specs.Sure.{SurelyNodes, SurelyTexts, ReadsBelow, IgnoresFocus, IsTest}
 use Rattle.xq_optimise.specs.private.Parts.{IsScan, general_comparison}
 use Rattle.xq_optimise.proofs.Scans.{slot_surely, path_surely}
 use Rattle.xq_optimise.proofs.Tests.{comparison_tells}
@@ -57,7 +57,7 @@ scan_alike frame other s (axis, test, is) xs f =
     let e = ap plan_step_mean is ∙ plan_eq.step-Scan axis test in
     ap (λ m. m frame xs f) e ∙ sym (ap (λ m. m other xs f) e)
 
-scans_alike : (frame other : Frame) (steps : List PlanStep) → AllByRecursion IsScan steps →
+pub scans_alike : (frame other : Frame) (steps : List PlanStep) → AllByRecursion IsScan steps →
     AreRelated (λ x y. (xs : List Item) (f : List Tree) → next_step frame xs x f ≡ next_step other xs y f) (map plan_step_mean steps) (map plan_step_mean steps)
 scans_alike frame other [] all = tt
 scans_alike frame other (s ∷ steps) all = (scan_alike frame other s all.0, scans_alike frame other steps all.1)
@@ -72,6 +72,26 @@ path_below known start steps h all slots more focus addresses trees fits =
     (h slots more focus addresses trees fits)
     (λ xs f. in_turn_same (next_step frame) (next_step other) (map plan_step_mean steps) (map plan_step_mean steps) (scans_alike frame other steps all) xs f)
     ∙ sym (ap (λ m. m other trees) (plan_eq.plan-Path start steps))
+
+-- # The focus
+
+pub slot_ignores : (n : ℕ) → IgnoresFocus (plan.Slot n)
+slot_ignores n slots focus other addresses trees =
+    ap (λ m. m (frame_of slots focus addresses) trees) (plan_eq.plan-Slot n)
+    ∙ sym (ap (λ m. m (frame_of slots other addresses) trees) (plan_eq.plan-Slot n))
+
+path_ignores : (start : Plan) (steps : List PlanStep) → IgnoresFocus start → AllByRecursion IsScan steps →
+    IgnoresFocus (plan.Path start steps)
+path_ignores start steps h all slots focus other addresses trees =
+    let here = frame_of slots focus addresses in
+    let there = frame_of slots other addresses in
+    ap (λ m. m here trees) (plan_eq.plan-Path start steps)
+    ∙ then_same (plan_mean start here trees) (plan_mean start there trees) (λ xs. in_turn (next_step here) xs (map plan_step_mean steps)) (λ xs. in_turn (next_step there) xs (map plan_step_mean steps))
+    (h slots focus other addresses trees)
+    (λ xs f. in_turn_same (next_step here) (next_step there) (map plan_step_mean steps) (map plan_step_mean steps) (scans_alike here there steps all) xs f)
+    ∙ sym (ap (λ m. m there trees) (plan_eq.plan-Path start steps))
+
+-- # Comparisons
 
 -- in both environments, whatever the focus is
 both : (known : List Held) (p : Plan) → ReadsBelow known p → (slots more : Slots) (addresses : List Text) → Fits known slots →
@@ -90,11 +110,12 @@ comparison_below known relation p q h k slots more focus addresses trees fits =
 -- # Parts whose form is known
 
 pub path_at : (known : List Held) (p start : Plan) (steps : List PlanStep) (n : ℕ) → p ≡ plan.Path start steps → start ≡ plan.Slot n →
-    slice_get known n ≡ Some Nodes → AllByRecursion IsScan steps → SurelyNodes known p × ReadsBelow known p
+    slice_get known n ≡ Some Nodes → AllByRecursion IsScan steps → SurelyNodes known p × ReadsBelow known p × IgnoresFocus p
 path_at known p start steps n is slot held all =
     let whole : p ≡ plan.Path (plan.Slot n) steps = is ∙ ap (λ s. plan.Path s steps) slot in (
       subst (SurelyNodes known) (sym whole) (path_surely known (plan.Slot n) steps (slot_surely known n held) all),
       subst (ReadsBelow known) (sym whole) (path_below known (plan.Slot n) steps (slot_below known n Nodes held) all),
+      subst IgnoresFocus (sym whole) (path_ignores (plan.Slot n) steps (slot_ignores n) all),
     )
 
 pub comparison_is_test : (known : List Held) (relation : Relation) (p q r : Plan) → r ≡ general_comparison relation p q →

@@ -9,3 +9,7 @@ pub mod Tests
 pub mod Below
 pub mod Conjuncts
 pub mod Documents
+pub mod PositionTests
+pub mod ItemTests
+pub mod Keeping
+pub mod Splitting

@@ -55,7 +55,7 @@ one_or_more op a (b ∷ bs) h k =
     decided true rest e = (true, e)
     decided false rest e = (rest.0, e ∙ rest.1)
 
-pairs_compare : (op : CompOp) (as' bs : List Atomic) → AllByRecursion IsText as' → AllByRecursion IsText bs →
+pub pairs_compare : (op : CompOp) (as' bs : List Atomic) → AllByRecursion IsText as' → AllByRecursion IsText bs →
     (truth : Bool) × (some_pair op as' bs ≡ Ok truth)
 pairs_compare op [] bs h k = (false, refl)
 pairs_compare op (a ∷ as') bs h k =
@@ -75,7 +75,7 @@ value_is_text : (v : TypedValue) → IsText (atomic_value v)
 value_is_text (string t) = tt
 value_is_text (untyped t) = tt
 
-nodes_have_texts : (trees : List Tree) (ps : List Place) → AllByRecursion IsText (atomized trees (map Node ps))
+pub nodes_have_texts : (trees : List Tree) (ps : List Place) → AllByRecursion IsText (atomized trees (map Node ps))
 nodes_have_texts trees [] = tt
 nodes_have_texts trees (p ∷ ps) = (value_is_text (typed_value (tree_below trees p)), nodes_have_texts trees ps)
 

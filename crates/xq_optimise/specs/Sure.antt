@@ -1,5 +1,6 @@
 -- Parts that can't be refused and make no nodes, where the slots are as known (XQuery 3.1, 2.3.4).
-use Rattle.std.specs.Prelude.{◌≡◌, ℕ, List, ◌++◌, map, Bool, Option, Some, Ok}
+use Rattle.std.proofs.Common.{suc}
+use Rattle.std.specs.Prelude.{◌≡◌, ℕ, List, ◌++◌, map, Bool, true, Option, Some, Ok}
 use Rattle.std.specs.List.{AllByRecursion}
 use Rattle.xq_atoms.specs.Atom.{Atomic, String, Untyped, Integer, Decimal, Boolean}
 use Rattle.xq_atoms.specs.Text.{Text}
@@ -52,6 +53,13 @@ ReadsBelow known p =
     plan_mean p (frame_of (slots ++ more) focus addresses) trees
     ≡ plan_mean p (frame_of slots focus addresses) trees
 
+-- its value is the same whatever the focus is
+abbrev pub IgnoresFocus : Plan → Type 0
+IgnoresFocus p =
+    (slots : Slots) (focus other : Option Focus) (addresses : List Text) (trees : List Tree) →
+    plan_mean p (frame_of slots focus addresses) trees
+    ≡ plan_mean p (frame_of slots other addresses) trees
+
 -- a test that can't be refused and reads those slots alone
 pub record IsTest (known : List Held) (p : Plan) : Type 0 where
   pub tells : SurelyTells known p
@@ -63,20 +71,52 @@ pub record IsTest (known : List Held) (p : Plan) : Type 0 where
 abbrev pub on_node : Place → ℕ → ℕ → Focus
 on_node place position last = record { item = Node place; position = position; last = last }
 
--- with the node in focus, whatever its position is, the part has this truth, also as a predicate,
+-- with a node in focus, the part has this truth, by the node and its position, also as a predicate,
 -- and leaves the trees as they are
-abbrev pub KeepsAt : Slots → List Text → List Tree → Meaning → Place → Bool → Type 0
-KeepsAt slots addresses trees m place truth =
-    (position last : ℕ) →
+abbrev pub KeepsBy : Slots → List Text → List Tree → Meaning → (Place → ℕ → Bool) → Type 0
+KeepsBy slots addresses trees m truth =
+    (place : Place) (position last : ℕ) →
     let frame = frame_of slots (Some (on_node place position last)) addresses in
-    (Forms.tested m frame trees ≡ (Ok truth, trees))
-    × (go_on (m frame trees) (λ value. judged (keeps position value)) ≡ (Ok truth, trees))
+    (Forms.tested m frame trees ≡ (Ok (truth place position), trees))
+    × (go_on (m frame trees) (λ value. judged (keeps position value))
+    ≡ (Ok (truth place position), trees))
 
--- it has one for each node
+-- it has one at each node and position
+abbrev pub SurelyDecides : List Held → Plan → Type 0
+SurelyDecides known p =
+    (slots : Slots) (addresses : List Text) (trees : List Tree) → Fits known slots →
+    (truth : Place → ℕ → Bool) × KeepsBy slots addresses trees (plan_mean p) truth
+
+-- it asks the node alone
 abbrev pub SurelyKeeps : List Held → Plan → Type 0
 SurelyKeeps known p =
     (slots : Slots) (addresses : List Text) (trees : List Tree) → Fits known slots →
-    (place : Place) → (truth : Bool) × KeepsAt slots addresses trees (plan_mean p) place truth
+    (truth : Place → Bool)
+    × KeepsBy slots addresses trees (plan_mean p) (λ place position. truth place)
+
+-- it asks the position alone, and keeps those before each that it keeps
+abbrev pub KeepsFirst : List Held → Plan → Type 0
+KeepsFirst known p =
+    (slots : Slots) (addresses : List Text) (trees : List Tree) → Fits known slots →
+    (truth : ℕ → Bool) × ((position : ℕ) → truth (suc position) ≡ true → truth position ≡ true)
+    × KeepsBy slots addresses trees (plan_mean p) (λ place position. truth position)
+
+-- with a node in focus the part gives nodes, whatever the position, and leaves the trees
+abbrev pub SurelyFinds : Plan → Type 0
+SurelyFinds p =
+    (slots : Slots) (addresses : List Text) (trees : List Tree) (place : Place) →
+    (found : List Place) × ((position last : ℕ) →
+    plan_mean p (frame_of slots (Some (on_node place position last)) addresses) trees
+    ≡ (Ok (map Node found), trees))
+
+-- it gives items that atomize to texts
+abbrev pub SurelyFindsTexts : List Held → Plan → Type 0
+SurelyFindsTexts known p =
+    (slots : Slots) (addresses : List Text) (trees : List Tree) → Fits known slots →
+    (place : Place) → (found : List Item) × AllByRecursion IsText (atomized trees found)
+    × ((position last : ℕ) →
+    plan_mean p (frame_of slots (Some (on_node place position last)) addresses) trees
+    ≡ (Ok found, trees))
 
 -- predicates that keep the same of any nodes, or are refused alike
 abbrev pub SamePredicates : List Held → List Plan → List Plan → Type 0

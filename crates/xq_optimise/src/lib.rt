@@ -9,6 +9,8 @@ ghost use Rattle.xq_optimise.specs.Scans.{KeepsScans};
 mod held;
 mod kinds;
 mod lists;
+mod positions;
+mod predicates;
 mod sure;
 mod walk;
 mod wheres;

@@ -2,7 +2,7 @@
 //! 2.3.4).
 ghost use Rattle.std.specs.Prelude.{◌≡◌, true, IfSome};
 ghost use Rattle.std.specs.List.{AllByRecursion};
-ghost use Rattle.xq_optimise.specs.Sure.{SurelyNodes, SurelyTexts, ReadsBelow, IsTest};
+ghost use Rattle.xq_optimise.specs.Sure.{SurelyNodes, SurelyTexts, ReadsBelow, IgnoresFocus, IsTest};
 ghost use Rattle.xq_optimise.specs.private.Parts.{general_comparison};
 
 use crate::held::Held;
@@ -43,6 +43,7 @@ pub fn as_comparison(plan: &Plan) -> Option<Comparison<'_>>
 pub fn is_nodes(known: &[Held], plan: &Plan) -> bool
     ensures sure { result ≡ true → SurelyNodes known.now plan.now }
     ensures below { result ≡ true → ReadsBelow known.now plan.now }
+    ensures free { result ≡ true → IgnoresFocus plan.now }
 {
     match plan {
         Plan::Slot(slot) => has_nodes(known, *slot),

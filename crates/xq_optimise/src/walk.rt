@@ -7,6 +7,8 @@ ghost use Rattle.xq_optimise.specs.private.Parts as parts;
 use crate::held::Held;
 use crate::kinds::held_by;
 use crate::lists::reversed;
+use crate::positions::with_position_first;
+use crate::predicates::{spliced, spliced_after};
 use crate::wheres::{pushed, with_tests};
 use sqlite_items::{Boxed, Items};
 use std::alloc::{AllocError, Global};
@@ -26,16 +28,20 @@ pub fn expression(alloc: Global, known: &mut Vec<Held>, plan: Plan) -> Result<Pl
         Plan::Call(function, list) => { Ok(Plan::Call(function, expressions(alloc, known, list)?)) }
         Plan::Chain(first, more) => {
             let first = boxed(alloc, known, first)?;
-            Ok(Plan::Chain(first, operands(alloc, known, more)?))
+            let more = operands(alloc, known, more)?;
+            with_position_first(alloc, Plan::Chain(first, more))
         }
         Plan::Unary(signs, part) => Ok(Plan::Unary(signs, boxed(alloc, known, part)?)),
         Plan::Step(axis, test, predicates) => {
             let predicates = expressions(alloc, known, predicates)?;
-            Ok(Plan::Step(axis, test, predicates))
+            let kept = spliced(alloc, known, predicates)?;
+            Ok(Plan::Step(axis, test, kept))
         }
         Plan::Filter(start, predicates) => {
             let start = boxed(alloc, known, start)?;
-            Ok(Plan::Filter(start, expressions(alloc, known, predicates)?))
+            let predicates = expressions(alloc, known, predicates)?;
+            let kept = spliced_after(alloc, known, start.get(), predicates)?;
+            Ok(Plan::Filter(start, kept))
         }
         Plan::Path(start, list) => {
             let start = boxed(alloc, known, start)?;

@@ -27,6 +27,7 @@ use Rattle.xq_optimise.specs.declared.held.Held.{Held}
 use Rattle.xq_optimise.specs.declared.held.Held.TheVariants.{Anything}
 use Rattle.xq_optimise.specs.Known.{Holds, Fits}
 use Rattle.xq_optimise.specs.Same.{GivesSame}
+use Rattle.xq_optimise.specs.Sure.{SamePredicates}
 
 -- each of one list is to its counterpart of the other
 abbrev pub AreAll : {A B : Type 0} → (A → B → Type 0) → List A → List B → Type 0
@@ -50,6 +51,17 @@ SameStep known s t =
     (xs : List Item) (trees : List Tree) →
     plan_step_mean t (frame_of slots focus addresses) xs trees
     ≡ plan_step_mean s (frame_of slots focus addresses) xs trees
+
+-- # Predicates
+
+-- a step without predicates
+abbrev pub IsPlainStep : Plan → Type 0
+IsPlainStep p = (axis : Axis) × (test : Test) × (p ≡ plan.Step axis test [])
+
+-- predicates that are put at the end, and stand for this one
+abbrev pub AddsPredicates : List Held → Plan → List Plan → List Plan → Type 0
+AddsPredicates known p before after =
+    (more : List Plan) × (after ≡ before ++ more) × SamePredicates known (p ∷ []) more
 
 -- # What a part gives
 

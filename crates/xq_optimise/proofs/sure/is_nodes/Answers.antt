@@ -1,10 +1,10 @@
 use Rattle.std.proofs.Common.{refl, sym, subst, ◌∙◌}
 use Rattle.std.specs.List.{AllByRecursion}
 use Rattle.xq_optimise.specs.declared.held.Held.TheVariants.{Nodes}
-use Rattle.xq_optimise.specs.Sure.{SurelyNodes, ReadsBelow}
+use Rattle.xq_optimise.specs.Sure.{SurelyNodes, ReadsBelow, IgnoresFocus}
 use Rattle.xq_optimise.specs.private.Parts.{IsScan}
 use Rattle.xq_optimise.proofs.Scans.{slot_surely}
-use Rattle.xq_optimise.proofs.Below.{slot_below, path_at}
+use Rattle.xq_optimise.proofs.Below.{slot_below, slot_ignores, path_at}
 use Rattle.xq_optimise.proofs.sure.is_nodes.Goals as goal
 
 pub returns-in-Slot-clause-sure : goal.returns-in-Slot-clause-sure
@@ -26,3 +26,12 @@ returns-then-has_nodes-clause-below c = λ e.
     let found = path_at c.args.known.now c.args.plan.now c.in-Path.start c.in-Path.steps c.in-Slot-get.slot c.in-Path.is
     (sym c.get.ensures ∙ c.in-Slot-get.is) (c.if-has_nodes.ensures refl)
     (subst (AllByRecursion IsScan) c.as_slice.ensures (c.are_scans.ensures.all e)) in found.1
+
+pub returns-in-Slot-clause-free : goal.returns-in-Slot-clause-free
+returns-in-Slot-clause-free c = λ e. subst IgnoresFocus (sym c.in-Slot.is) (slot_ignores c.in-Slot.slot)
+
+pub returns-then-has_nodes-clause-free : goal.returns-then-has_nodes-clause-free
+returns-then-has_nodes-clause-free c = λ e.
+    let found = path_at c.args.known.now c.args.plan.now c.in-Path.start c.in-Path.steps c.in-Slot-get.slot c.in-Path.is
+    (sym c.get.ensures ∙ c.in-Slot-get.is) (c.if-has_nodes.ensures refl)
+    (subst (AllByRecursion IsScan) c.as_slice.ensures (c.are_scans.ensures.all e)) in found.2

@@ -6,10 +6,12 @@ use Rattle.xq_meaning.specs.declared.plans.PlanClause.{size-PlanClause}
 use denote.Param.Weighed.{most}
 use Rattle.std.proofs.lemmas.Result.{IfOk-weaker}
 use Rattle.xq_optimise.specs.Same.{GivesSame}
+use Rattle.xq_optimise.specs.Sure.{SamePredicates}
 use Rattle.xq_optimise.specs.private.Parts.{AreAll, SameOperand, SameCall, SameKey, SameStep, SameClause, SameClauses, SameRanges, IsHeld, Extends, AddsTests}
 use Rattle.xq_optimise.proofs.Forms as forms
 use Rattle.xq_optimise.proofs.Forms.{gives_at, known_at, all_known_at, itself, step_itself, each_gives}
 use Rattle.xq_optimise.proofs.Flwor.{flwor_gives}
+use Rattle.xq_optimise.proofs.Splitting.{step_same_on}
 use Rattle.xq_optimise.proofs.Ranges.{quantified_gives, held_of_same}
 use Rattle.xq_optimise.proofs.Loops.{left_none, left_next, left_done, left_size, turned_size, no_ranges, range_next, ranges_done, no_clauses, clause_added, clauses_done, for_adds, let_adds, tests_add, order_adds, count_adds, group_adds, refused_adds, adds_at, extends_bound, extends_itself, extends_more, scope_left, ranges_left}
 use Rattle.xq_optimise.proofs.walk.+walk.Goals as goal
@@ -34,17 +36,30 @@ expression-returns-in_ok-expressions-in-Call-clause-same t c =
     gives_at c.args.known.now.items c.args.plan (plan.Call c.in-Call.function c.in-Call.list) (plan.Call c.in-Call.function c.in_ok-expressions-in-Call.field-0) c.in-Call.is
     (forms.call_gives c.args.known.now.items c.in-Call.function c.in-Call.list c.in_ok-expressions-in-Call.field-0 c.in_ok-expressions-in-Call.ensures.same)
 
-pub expression-returns-in_ok-operands-in-Chain-clause-same : goal.expression-returns-in_ok-operands-in-Chain-clause-same
-expression-returns-in_ok-operands-in-Chain-clause-same t c =
-    gives_at c.args.known.now.items c.args.plan (plan.Chain c.in-Chain.first c.in-Chain.more) (plan.Chain c.in_ok-first-in-Chain.first c.in_ok-operands-in-Chain.field-0) c.in-Chain.is
-    (forms.chain_gives c.args.known.now.items c.in-Chain.first c.in_ok-first-in-Chain.first c.in-Chain.more c.in_ok-operands-in-Chain.field-0 c.in_ok-first-in-Chain.ensures.same
-    (all_known_at SameOperand c.args.known.now.items c.boxed.new.known.items c.in-Chain.more c.in_ok-operands-in-Chain.field-0 c.in_ok-first-in-Chain.ensures.kept c.in_ok-operands-in-Chain.ensures.same))
+pub expression-returns-in_ok-more-in-Chain-clause-same : goal.expression-returns-in_ok-more-in-Chain-clause-same
+expression-returns-in_ok-more-in-Chain-clause-same t c =
+    let known = c.args.known.now.items in
+    let chain = plan.Chain c.in_ok-first-in-Chain.first c.in_ok-more-in-Chain.more in
+    IfOk-weaker c.with_position_first.result _ _
+    (λ found h. gives_at known c.args.plan (plan.Chain c.in-Chain.first c.in-Chain.more) found c.in-Chain.is
+    (forms.then_gives known (plan.Chain c.in-Chain.first c.in-Chain.more) chain found
+    (forms.chain_gives known c.in-Chain.first c.in_ok-first-in-Chain.first c.in-Chain.more c.in_ok-more-in-Chain.more c.in_ok-first-in-Chain.ensures.same
+    (all_known_at SameOperand known c.boxed.new.known.items c.in-Chain.more c.in_ok-more-in-Chain.more c.in_ok-first-in-Chain.ensures.kept c.in_ok-more-in-Chain.ensures.same))
+    (h known))) c.with_position_first.ensures
 
-pub expression-returns-in_ok-expressions-in-Filter-clause-same : goal.expression-returns-in_ok-expressions-in-Filter-clause-same
-expression-returns-in_ok-expressions-in-Filter-clause-same t c =
-    gives_at c.args.known.now.items c.args.plan (plan.Filter c.in-Filter.start c.in-Filter.predicates) (plan.Filter c.in_ok-start-in-Filter.start c.in_ok-expressions-in-Filter.field-0) c.in-Filter.is
-    (forms.filter_gives c.args.known.now.items c.in-Filter.start c.in_ok-start-in-Filter.start c.in-Filter.predicates c.in_ok-expressions-in-Filter.field-0 c.in_ok-start-in-Filter.ensures.same
-    (all_known_at GivesSame c.args.known.now.items c.boxed-in-Filter.new.known.items c.in-Filter.predicates c.in_ok-expressions-in-Filter.field-0 c.in_ok-start-in-Filter.ensures.kept c.in_ok-expressions-in-Filter.ensures.same))
+pub expression-returns-in_ok-kept-in-Filter-clause-same : goal.expression-returns-in_ok-kept-in-Filter-clause-same
+expression-returns-in_ok-kept-in-Filter-clause-same t c =
+    let known = c.args.known.now.items in
+    let start = c.in_ok-start-in-Filter.start in
+    let predicates = c.in_ok-predicates-in-Filter.predicates in
+    let found = c.in_ok-kept-in-Filter.kept in
+    let now = c.deref-in-Filter.ensures.value ∙ c.in_ok-predicates-in-Filter.ensures.kept ∙ c.in_ok-start-in-Filter.ensures.kept in
+    gives_at known c.args.plan (plan.Filter c.in-Filter.start c.in-Filter.predicates) (plan.Filter start found) c.in-Filter.is
+    (forms.then_gives known (plan.Filter c.in-Filter.start c.in-Filter.predicates) (plan.Filter start predicates) (plan.Filter start found)
+    (forms.filter_gives known c.in-Filter.start start c.in-Filter.predicates predicates c.in_ok-start-in-Filter.ensures.same
+    (all_known_at GivesSame known c.boxed-in-Filter.new.known.items c.in-Filter.predicates predicates c.in_ok-start-in-Filter.ensures.kept c.in_ok-predicates-in-Filter.ensures.same))
+    (subst (λ k. GivesSame k (plan.Filter start predicates) (plan.Filter start found)) now
+    (subst (λ p. GivesSame c.deref-in-Filter.result.now (plan.Filter p predicates) (plan.Filter p found)) c.get.ensures c.in_ok-kept-in-Filter.ensures)))
 
 pub expression-returns-in_ok-steps-in-Path-clause-same : goal.expression-returns-in_ok-steps-in-Path-clause-same
 expression-returns-in_ok-steps-in-Path-clause-same t c =
@@ -69,10 +84,17 @@ expression-returns-in_ok-boxed-in-Unary-clause-same t c =
     gives_at c.args.known.now.items c.args.plan (plan.Unary c.in-Unary.signs c.in-Unary.part) (plan.Unary c.in-Unary.signs c.in_ok-boxed-in-Unary.field-0) c.in-Unary.is
     (forms.unary_gives c.args.known.now.items c.in-Unary.signs c.in-Unary.part c.in_ok-boxed-in-Unary.field-0 c.in_ok-boxed-in-Unary.ensures.same)
 
-pub expression-returns-in_ok-predicates-in-Step-clause-same : goal.expression-returns-in_ok-predicates-in-Step-clause-same
-expression-returns-in_ok-predicates-in-Step-clause-same t c =
-    gives_at c.args.known.now.items c.args.plan (plan.Step c.in-Step.axis c.in-Step.test c.in-Step.predicates) (plan.Step c.in-Step.axis c.in-Step.test c.in_ok-predicates-in-Step.predicates) c.in-Step.is
-    (forms.step_gives c.args.known.now.items c.in-Step.axis c.in-Step.test c.in-Step.predicates c.in_ok-predicates-in-Step.predicates c.in_ok-predicates-in-Step.ensures.same)
+pub expression-returns-in_ok-kept-in-Step-clause-same : goal.expression-returns-in_ok-kept-in-Step-clause-same
+expression-returns-in_ok-kept-in-Step-clause-same t c =
+    let known = c.args.known.now.items in
+    let step_of = plan.Step c.in-Step.axis c.in-Step.test in
+    let predicates = c.in_ok-predicates-in-Step.predicates in
+    let found = c.in_ok-kept-in-Step.kept in
+    gives_at known c.args.plan (step_of c.in-Step.predicates) (step_of found) c.in-Step.is
+    (forms.then_gives known (step_of c.in-Step.predicates) (step_of predicates) (step_of found)
+    (forms.step_gives known c.in-Step.axis c.in-Step.test c.in-Step.predicates predicates c.in_ok-predicates-in-Step.ensures.same)
+    (step_same_on known c.in-Step.axis c.in-Step.test predicates found
+    (subst (λ k. SamePredicates k predicates found) (c.deref.ensures.value ∙ c.in_ok-predicates-in-Step.ensures.kept) c.in_ok-kept-in-Step.ensures)))
 
 pub expression-returns-in_ok-negative-in-If-clause-same : goal.expression-returns-in_ok-negative-in-If-clause-same
 expression-returns-in_ok-negative-in-If-clause-same t c =
