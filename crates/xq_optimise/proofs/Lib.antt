@@ -13,3 +13,5 @@ pub mod PositionTests
 pub mod ItemTests
 pub mod Keeping
 pub mod Splitting
+pub mod NodesAtOnce
+pub mod WholePaths

@@ -1,9 +1,8 @@
 -- Scans from nodes give nodes, and are never refused.
 use Rattle.std.proofs.Common.{◌≡◌, ◌<◌, ℕ, zero, suc, length, arith, List, [], ◌∷◌, map, Ok, Err, refl, sym, ap, ◌∙◌, subst, ◌⊎◌, inl, inr}
-use Rattle.std.specs.Prelude.{Option, Some, slice_get}
+use Rattle.std.specs.Prelude.{Some, slice_get}
 use Rattle.std.specs.List.{AllByRecursion, flat_map}
 use Rattle.xq_atoms.specs.Judged.{◌>>=◌}
-use Rattle.xq_atoms.specs.Text.{Text}
 use Rattle.xq_atoms.specs.declared.refusals.Code.{Code}
 use Rattle.xq_atoms.specs.declared.refusals.Code.TheVariants.{XPTY0019}
 use Rattle.xq_trees.specs.declared.Axis.{Axis}
@@ -13,7 +12,6 @@ use Rattle.xq_meaning.specs.declared.node_tests.Test.{Test}
 use Rattle.xq_meaning.specs.declared.plans.Plan.{Plan}
 use Rattle.xq_meaning.specs.declared.plans.Plan.TheVariants as plan
 use Rattle.xq_meaning.specs.declared.plans.PlanStep.{PlanStep}
-use Rattle.xq_meaning.specs.Functions.{Focus}
 use Rattle.xq_meaning.specs.Items.{Place, Item, Node, Atom, in_document_order}
 use Rattle.xq_meaning.specs.Arguments.{all_nodes}
 use Rattle.xq_meaning.specs.Operators.{in_order}
@@ -25,7 +23,7 @@ use Rattle.xq_meaning.specs.Same.{frame_of}
 use Rattle.xq_meaning.proofs.PlanEquations as plan_eq
 use Rattle.xq_optimise.specs.declared.held.Held.{Held}
 use Rattle.xq_optimise.specs.declared.held.Held.TheVariants.{Nodes, Anything}
-use Rattle.xq_optimise.specs.Known.{AreNodes, Holds, Fits}
+use Rattle.xq_optimise.specs.Known.{Holds, Fits}
 use Rattle.xq_optimise.specs.Sure.{SurelyNodes}
 use Rattle.xq_optimise.specs.private.Parts.{IsHeld, GivesHeld, IsScan}
 
@@ -34,7 +32,7 @@ nodes_all code [] = refl
 nodes_all code (p ∷ ps) = ap (λ r. r >>= (λ qs. Ok (p ∷ qs))) (nodes_all code ps)
 
 -- items are nodes, or are refused
-nodes_or_refused : (xs : List Item) →
+pub nodes_or_refused : (xs : List Item) →
     ((ps : List Place) × (xs ≡ map Node ps)) ⊎ ((code : Code) → all_nodes code xs ≡ Err code)
 nodes_or_refused [] = inl ([], refl)
 nodes_or_refused (Atom a ∷ xs) = inr (λ code. refl)
@@ -49,7 +47,7 @@ nodes_or_refused (Node p ∷ xs) =
 abbrev found : List Tree → Axis → Test → List Place → List Place
 found f axis test ps = in_document_order f (flat_map (axis_nodes f axis test) ps)
 
-scan_from : (axis : Axis) (test : Test) (ps : List Place) (f : List Tree) →
+pub scan_from : (axis : Axis) (test : Test) (ps : List Place) (f : List Tree) →
     Forms.scan axis test (map Node ps) f ≡ (Ok (map Node (found f axis test ps)), f)
 scan_from axis test ps f =
     ap (λ r. go_on (judged r f) (λ places. on_trees (λ trees. Ok (in_order trees (flat_map (axis_nodes trees axis test) places)))))

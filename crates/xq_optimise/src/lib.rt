@@ -11,6 +11,7 @@ mod kinds;
 mod lists;
 mod positions;
 mod predicates;
+mod scanned;
 mod sure;
 mod walk;
 mod wheres;

@@ -85,7 +85,7 @@ fn finds_texts(known: &[Held], plan: &Plan) -> bool
 }
 
 /// Whether the part compares texts, or asks whether there are nodes by steps from the one in focus.
-fn is_item_test(known: &[Held], plan: &Plan) -> bool
+pub fn is_item_test(known: &[Held], plan: &Plan) -> bool
     ensures { result ≡ true → sure.SurelyKeeps known.now plan.now }
 {
     match as_comparison(plan) {

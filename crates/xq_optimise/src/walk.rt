@@ -9,6 +9,7 @@ use crate::kinds::held_by;
 use crate::lists::reversed;
 use crate::positions::with_position_first;
 use crate::predicates::{spliced, spliced_after};
+use crate::scanned;
 use crate::wheres::{pushed, with_tests};
 use sqlite_items::{Boxed, Items};
 use std::alloc::{AllocError, Global};
@@ -45,7 +46,8 @@ pub fn expression(alloc: Global, known: &mut Vec<Held>, plan: Plan) -> Result<Pl
         }
         Plan::Path(start, list) => {
             let start = boxed(alloc, known, start)?;
-            Ok(Plan::Path(start, steps(alloc, known, list)?))
+            let list = steps(alloc, known, list)?;
+            scanned::path(alloc, known, start, list)
         }
         Plan::If(test, positive, negative) => {
             let test = boxed(alloc, known, test)?;

@@ -180,3 +180,12 @@ forgotten start known = take start known ++ replicate (length known - start) Any
 pub record Extends (start : ℕ) (before after : List Held) : Type 0 where
   pub outer : take start after ≡ take start before
   pub within : start ≤ length after
+
+-- # Paths
+
+-- after one step more, a path that gave the same as another gives the same again
+abbrev pub MovesOn : List Held → PlanStep → Plan → List PlanStep → Plan → List PlanStep → Type 0
+MovesOn known s from scans from' scans' =
+    (start : Plan) (taken : List PlanStep) →
+    GivesSame known (plan.Path start taken) (plan.Path from scans) →
+    GivesSame known (plan.Path start (taken ++ s ∷ [])) (plan.Path from' scans')

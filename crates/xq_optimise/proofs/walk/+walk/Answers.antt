@@ -1,4 +1,4 @@
-use Rattle.std.proofs.Common.{◌≡◌, ◌<◌, ◌+◌, ◌*◌, ◌++◌, List, ◌∷◌, [], map, length, take, sym, ap, ◌∙◌, subst, refl, arith, rules}
+use Rattle.std.proofs.Common.{◌≡◌, ◌<◌, ◌+◌, ◌*◌, sym, ◌∙◌, subst, refl, arith}
 use Rattle.xq_meaning.specs.declared.plans.Plan.TheVariants as plan
 use Rattle.xq_meaning.specs.declared.plans.PlanClause.TheVariants as clause
 use Rattle.xq_meaning.specs.declared.plans.PlanStep.TheVariants as step
@@ -7,13 +7,13 @@ use denote.Param.Weighed.{most}
 use Rattle.std.proofs.lemmas.Result.{IfOk-weaker}
 use Rattle.xq_optimise.specs.Same.{GivesSame}
 use Rattle.xq_optimise.specs.Sure.{SamePredicates}
-use Rattle.xq_optimise.specs.private.Parts.{AreAll, SameOperand, SameCall, SameKey, SameStep, SameClause, SameClauses, SameRanges, IsHeld, Extends, AddsTests}
+use Rattle.xq_optimise.specs.private.Parts.{SameOperand, SameCall, SameKey, SameStep, SameClauses, IsHeld, AddsTests}
 use Rattle.xq_optimise.proofs.Forms as forms
 use Rattle.xq_optimise.proofs.Forms.{gives_at, known_at, all_known_at, itself, step_itself, each_gives}
 use Rattle.xq_optimise.proofs.Flwor.{flwor_gives}
 use Rattle.xq_optimise.proofs.Splitting.{step_same_on}
-use Rattle.xq_optimise.proofs.Ranges.{quantified_gives, held_of_same}
-use Rattle.xq_optimise.proofs.Loops.{left_none, left_next, left_done, left_size, turned_size, no_ranges, range_next, ranges_done, no_clauses, clause_added, clauses_done, for_adds, let_adds, tests_add, order_adds, count_adds, group_adds, refused_adds, adds_at, extends_bound, extends_itself, extends_more, scope_left, ranges_left}
+use Rattle.xq_optimise.proofs.Ranges.{quantified_gives}
+use Rattle.xq_optimise.proofs.Loops.{left_next, turned_size, range_next, clause_added, for_adds, let_adds, tests_add, order_adds, count_adds, group_adds, adds_at, ranges_left}
 use Rattle.xq_optimise.proofs.walk.+walk.Goals as goal
 
 pub expression-returns-in_ok-expressions-in-Sequence-clause-same : goal.expression-returns-in_ok-expressions-in-Sequence-clause-same
@@ -61,11 +61,18 @@ expression-returns-in_ok-kept-in-Filter-clause-same t c =
     (subst (λ k. GivesSame k (plan.Filter start predicates) (plan.Filter start found)) now
     (subst (λ p. GivesSame c.deref-in-Filter.result.now (plan.Filter p predicates) (plan.Filter p found)) c.get.ensures c.in_ok-kept-in-Filter.ensures)))
 
-pub expression-returns-in_ok-steps-in-Path-clause-same : goal.expression-returns-in_ok-steps-in-Path-clause-same
-expression-returns-in_ok-steps-in-Path-clause-same t c =
-    gives_at c.args.known.now.items c.args.plan (plan.Path c.in-Path.start c.in-Path.list) (plan.Path c.in_ok-start-in-Path.start c.in_ok-steps-in-Path.field-0) c.in-Path.is
-    (forms.path_gives c.args.known.now.items c.in-Path.start c.in_ok-start-in-Path.start c.in-Path.list c.in_ok-steps-in-Path.field-0 c.in_ok-start-in-Path.ensures.same
-    (all_known_at SameStep c.args.known.now.items c.boxed-in-Path.new.known.items c.in-Path.list c.in_ok-steps-in-Path.field-0 c.in_ok-start-in-Path.ensures.kept c.in_ok-steps-in-Path.ensures.same))
+pub expression-returns-in_ok-list-in-Path-clause-same : goal.expression-returns-in_ok-list-in-Path-clause-same
+expression-returns-in_ok-list-in-Path-clause-same t c =
+    let known = c.args.known.now.items in
+    let start = c.in_ok-start-in-Path.start in
+    let list = c.in_ok-list-in-Path.list in
+    let now = c.deref-in-Path.ensures.value ∙ c.in_ok-list-in-Path.ensures.kept ∙ c.in_ok-start-in-Path.ensures.kept in
+    IfOk-weaker c.path.result _ _
+    (λ found h. gives_at known c.args.plan (plan.Path c.in-Path.start c.in-Path.list) found c.in-Path.is
+    (forms.then_gives known (plan.Path c.in-Path.start c.in-Path.list) (plan.Path start list) found
+    (forms.path_gives known c.in-Path.start start c.in-Path.list list c.in_ok-start-in-Path.ensures.same
+    (all_known_at SameStep known c.boxed-in-Path.new.known.items c.in-Path.list list c.in_ok-start-in-Path.ensures.kept c.in_ok-list-in-Path.ensures.same))
+    (subst (λ k. GivesSame k (plan.Path start list) found) now h))) c.path.ensures
 
 pub expression-returns-in_ok-calls-in-Arrow-clause-same : goal.expression-returns-in_ok-calls-in-Arrow-clause-same
 expression-returns-in_ok-calls-in-Arrow-clause-same t c =

@@ -1,0 +1,173 @@
+//! Steps whose predicates compare texts: the scan from all nodes at once, and then the predicates
+//! on all that it finds, which lets the values that are kept serve them (XQuery 3.1, sections 3.3.2
+//! and 3.3.3).
+ghost use Rattle.std.specs.Prelude.{◌≡◌, ◌++◌, ◌∷◌, [], true, IfOk};
+ghost use Rattle.std.specs.List.{AllByRecursion};
+ghost use Rattle.xq_meaning.specs.declared.plans.Plan.TheVariants as plan_of;
+ghost use Rattle.xq_meaning.specs.declared.plans.PlanStep.TheVariants as step_of;
+ghost use Rattle.xq_optimise.specs.Same.{GivesSame};
+ghost use Rattle.xq_optimise.specs.Sure.{SurelyKeeps};
+ghost use Rattle.xq_optimise.specs.private.Parts.{MovesOn};
+
+use crate::held::Held;
+use crate::lists::reversed;
+use crate::predicates::is_item_test;
+use crate::sure::as_comparison;
+use sqlite_items::{Boxed, Items};
+use std::alloc::{AllocError, Global};
+use xq_meaning::{Plan, PlanStep, Test};
+use xq_trees::Axis;
+
+/// Whether the predicate compares texts of the node in focus.
+fn is_text_test(known: &[Held], plan: &Plan) -> bool
+    ensures { result ≡ true → SurelyKeeps known.now plan.now }
+{
+    if as_comparison(plan).is_none() {
+        return false;
+    }
+    is_item_test(known, plan)
+}
+
+/// Whether each predicate does.
+fn are_text_tests(known: &[Held], predicates: &[Plan]) -> bool
+    ensures { result ≡ true → AllByRecursion (SurelyKeeps known.now) predicates.now }
+{
+    for predicate in predicates {
+        if !is_text_test(known, predicate) {
+            return false;
+        }
+    }
+    true
+}
+
+/// Whether the last of the steps is `descendant-or-self::node()`, for which `//` stands.
+fn ends_in_double_slash(steps: &[PlanStep]) -> bool {
+    let Some(PlanStep::Scan(Axis::DescendantOrSelf, test)) = steps.last() else {
+        return false;
+    };
+    matches!(test, Test::Any)
+}
+
+/// A path so far: what it starts from, and the steps that follow.
+#[derive(Drop)]
+struct Taken {
+    start: Plan,
+    steps: Items<PlanStep>,
+}
+
+/// Whether some predicates of a step are judged over all that the step finds. After `//` evaluation
+/// looks for what passes one predicate at once, so that such a step stays.
+fn is_judged_at_once(known: &[Held], before: &[PlanStep], predicates: &[Plan]) -> bool
+    ensures { result ≡ true → AllByRecursion (SurelyKeeps known.now) predicates.now }
+{
+    if predicates.is_empty() || (predicates.len() == 1 && ends_in_double_slash(before)) {
+        return false;
+    }
+    are_text_tests(known, predicates)
+}
+
+/// The path with a scan more, of whose nodes the predicates keep some.
+fn with_tests(
+    alloc: Global,
+    path: Taken,
+    axis: Axis,
+    test: Test,
+    predicates: Items<Plan>,
+) -> Result<Taken, AllocError>
+    ensures { IfOk result (λ found. (found.steps ≡ []) × (found.start ≡ plan_of.Filter
+        (plan_of.Path path.start (path.steps ++ step_of.Scan axis test ∷ [])) predicates)) }
+{
+    let mut steps = path.steps;
+    steps.push(PlanStep::Scan(axis, test))?;
+    let found = Plan::Path(Boxed::new(alloc, path.start)?, steps);
+    Ok(Taken {
+        start: Plan::Filter(Boxed::new(alloc, found)?, predicates),
+        steps: Items::new(alloc),
+    })
+}
+
+/// The path with a part for each of its nodes.
+fn with_part(alloc: Global, known: &[Held], path: Taken, part: Plan) -> Result<Taken, AllocError>
+    ensures { IfOk result (λ found.
+        MovesOn known.now (step_of.Each part) path.start path.steps found.start found.steps) }
+{
+    match part {
+        Plan::Step(axis, test, predicates) => {
+            if is_judged_at_once(known, path.steps.as_slice(), predicates.as_slice()) {
+                return with_tests(alloc, path, axis, test, predicates);
+            }
+            pushed(path, PlanStep::Each(Plan::Step(axis, test, predicates)))
+        }
+        part => pushed(path, PlanStep::Each(part)),
+    }
+}
+
+/// The path with a step more.
+fn with_step(
+    alloc: Global,
+    known: &[Held],
+    path: Taken,
+    step: PlanStep,
+) -> Result<Taken, AllocError>
+    ensures { IfOk result (λ found.
+        MovesOn known.now step path.start path.steps found.start found.steps) }
+{
+    match step {
+        PlanStep::Each(part) => with_part(alloc, known, path, part),
+        PlanStep::Scan(axis, test) => pushed(path, PlanStep::Scan(axis, test)),
+    }
+}
+
+/// The path with this step after the others.
+fn pushed(path: Taken, step: PlanStep) -> Result<Taken, AllocError>
+    ensures { IfOk result (λ found. (found.start ≡ path.start)
+        × (found.steps ≡ path.steps ++ step ∷ [])) }
+{
+    let mut steps = path.steps;
+    steps.push(step)?;
+    Ok(Taken {
+        start: path.start,
+        steps,
+    })
+}
+
+/// The path, or what it starts from, where no step follows.
+fn whole(alloc: Global, known: &[Held], path: Taken) -> Result<Plan, AllocError>
+    ensures { IfOk result (λ found.
+        GivesSame known.now (plan_of.Path path.start path.steps) found) }
+{
+    if path.steps.is_empty() {
+        return Ok(path.start);
+    }
+    Ok(Plan::Path(Boxed::new(alloc, path.start)?, path.steps))
+}
+
+/// Whether one of the steps has predicates.
+fn have_predicates(steps: &[PlanStep]) -> bool {
+    steps
+        .iter()
+        .any(|step| matches!(step, PlanStep::Each(Plan::Step(_, _, _))))
+}
+
+/// A path that gives the same as one with these steps. Where no step has predicates, it is that one.
+pub fn path(
+    alloc: Global,
+    known: &[Held],
+    start: Boxed<Plan>,
+    steps: Items<PlanStep>,
+) -> Result<Plan, AllocError>
+    ensures { IfOk result (λ found. GivesSame known.now (plan_of.Path start steps) found) }
+{
+    if !have_predicates(steps.as_slice()) {
+        return Ok(Plan::Path(start, steps));
+    }
+    let mut left = reversed(alloc, steps)?;
+    let mut path = Taken {
+        start: start.into_inner(),
+        steps: Items::new(alloc),
+    };
+    while let Some(step) = left.pop() {
+        path = with_step(alloc, known, path, step)?;
+    }
+    whole(alloc, known, path)
+}
