@@ -13,3 +13,4 @@ pub mod PositionTests
 pub mod ItemTests
 pub mod Keeping
 pub mod Splitting
+pub mod Rising
