@@ -15,3 +15,4 @@ pub mod Keeping
 pub mod Splitting
 pub mod NodesAtOnce
 pub mod WholePaths
+pub mod Rising

@@ -238,6 +238,31 @@ module _ (now last : List Held) (slots : Slots) (k l : List (Tuple Item) → Doi
       let next = h tuples f w in subst (GivesFitting last slots) (sym next.same) next.fits
   step_fits (Err code, f) w = tt
 
+-- the next one, and what it becomes
+pub leads_next : (all left rest : List PlanClause) (start : ℕ) (now now' : List Held) (done done' ds : List PlanClause) (c : PlanClause)
+    (slots : Slots) (focus : Option Focus) (addresses : List Text) → length slots ≡ start → (tuples : List (Tuple Item)) (trees : List Tree) →
+    Leads all left now slots (frame_of slots focus addresses) tuples trees done → left ≡ rest ++ c ∷ [] → SameMany start now c ds now' →
+    done' ≡ done ++ ds → Leads all rest now' slots (frame_of slots focus addresses) tuples trees done'
+leads_next all left rest start now now' done done' ds c slots focus addresses l tuples trees before cut is pushed =
+    let frame = frame_of slots focus addresses in
+    let act = next_clause frame in
+    let o = in_turn act tuples (map plan_clause_mean done) trees in
+    let next = is slots focus addresses l in
+    let others = map plan_clause_mean (reverse rest) in
+    let front : map plan_clause_mean (reverse left) ≡ plan_clause_mean c ∷ others = ap (λ cs. map plan_clause_mean (reverse cs)) cut ∙ ap (map plan_clause_mean) (reverse-append rest (c ∷ [])) in
+    let grown : in_turn act tuples (map plan_clause_mean (done ++ ds)) trees ≡ go_on o (λ n. in_turn act n (map plan_clause_mean ds)) =
+    ap (λ ms. in_turn act tuples ms trees) (map-append plan_clause_mean done ds) ∙ in_turn-append act tuples (map plan_clause_mean done) (map plan_clause_mean ds) trees in
+    subst (Leads all rest now' slots frame tuples trees) (sym pushed)
+    (record {
+      same =
+          before.same
+          ∙ ap (λ ms. go_on o (λ n. in_turn act n ms)) front
+          ∙ sym (go_on_go_on o (λ n. plan_clause_mean c frame n) (λ m. in_turn act m others))
+          ∙ ap (λ p. go_on p (λ m. in_turn act m others))
+          (step_same now now' slots (plan_clause_mean c frame) (λ n. in_turn act n (map plan_clause_mean ds)) next o before.fits ∙ sym grown);
+      fits = subst (GivesFitting now' slots) (sym grown) (step_fits now now' slots (plan_clause_mean c frame) (λ n. in_turn act n (map plan_clause_mean ds)) next o before.fits);
+    })
+
 pub clause_next : (all left rest : List PlanClause) (start : ℕ) (old now now' : List Held) (done done' ds : List PlanClause) (c : PlanClause) →
     ClausesLeft all left start old now done → left ≡ rest ++ c ∷ [] → SameMany start now c ds now' → Extends start now now' →
     done' ≡ done ++ ds → ClausesLeft all rest start old now' done'
@@ -246,25 +271,7 @@ clause_next all left rest start old now now' done done' ds c h cut is more pushe
   whole = sym (turned h.taken rest c) ∙ ap (λ l. h.taken ++ reverse l) (sym cut) ∙ h.whole;
   outer = extends_then start old now now' h.outer more;
   leads = λ slots focus addresses l tuples trees w.
-      let frame = frame_of slots focus addresses in
-      let act = next_clause frame in
-      let before = h.leads slots focus addresses l tuples trees w in
-      let o = in_turn act tuples (map plan_clause_mean done) trees in
-      let next = is slots focus addresses l in
-      let others = map plan_clause_mean (reverse rest) in
-      let front : map plan_clause_mean (reverse left) ≡ plan_clause_mean c ∷ others = ap (λ cs. map plan_clause_mean (reverse cs)) cut ∙ ap (map plan_clause_mean) (reverse-append rest (c ∷ [])) in
-      let grown : in_turn act tuples (map plan_clause_mean (done ++ ds)) trees ≡ go_on o (λ n. in_turn act n (map plan_clause_mean ds)) =
-      ap (λ ms. in_turn act tuples ms trees) (map-append plan_clause_mean done ds) ∙ in_turn-append act tuples (map plan_clause_mean done) (map plan_clause_mean ds) trees in
-      subst (Leads all rest now' slots frame tuples trees) (sym pushed)
-      (record {
-        same =
-            before.same
-            ∙ ap (λ ms. go_on o (λ n. in_turn act n ms)) front
-            ∙ sym (go_on_go_on o (λ n. plan_clause_mean c frame n) (λ m. in_turn act m others))
-            ∙ ap (λ p. go_on p (λ m. in_turn act m others))
-            (step_same now now' slots (plan_clause_mean c frame) (λ n. in_turn act n (map plan_clause_mean ds)) next o before.fits ∙ sym grown);
-        fits = subst (GivesFitting now' slots) (sym grown) (step_fits now now' slots (plan_clause_mean c frame) (λ n. in_turn act n (map plan_clause_mean ds)) next o before.fits);
-      });
+      leads_next all left rest start now now' done done' ds c slots focus addresses l tuples trees (h.leads slots focus addresses l tuples trees w) cut is pushed;
 }
 
 -- the same of what a clause becomes

@@ -1,5 +1,5 @@
 //! The form of each part that is evaluated fast, where something is known of the slots.
-ghost use Rattle.std.specs.Prelude.{◌≡◌, ◌≤◌, ◌++◌, IfOk, OnOk, length};
+ghost use Rattle.std.specs.Prelude.{◌≡◌, ◌≤◌, IfOk, OnOk, length};
 ghost use Rattle.xq_meaning.specs.declared.plans.Plan.TheVariants as plan_of;
 ghost use Rattle.xq_optimise.specs.Same.{GivesSame};
 ghost use Rattle.xq_optimise.specs.private.Parts as parts;
@@ -7,9 +7,11 @@ ghost use Rattle.xq_optimise.specs.private.Parts as parts;
 use crate::held::Held;
 use crate::kinds::held_by;
 use crate::lists::reversed;
+use crate::order::arranged;
 use crate::positions::with_position_first;
 use crate::predicates::{spliced, spliced_after};
 use crate::scanned;
+use crate::scopes::{bind, forget};
 use crate::wheres::{pushed, with_tests};
 use sqlite_items::{Boxed, Items};
 use std::alloc::{AllocError, Global};
@@ -249,7 +251,8 @@ fn flwor(
     let list = clauses(alloc, known, outer, list)?;
     let part = boxed(alloc, known, part)?;
     known.truncate(outer);
-    Ok(Plan::Flwor(list, part))
+    let sorted = arranged(alloc, known, list)?;
+    Ok(Plan::Flwor(sorted, part))
 }
 
 /// The clauses of a FLWOR, whose slots are those from a place on; they stay known.
@@ -321,25 +324,4 @@ fn clause(
         }
         PlanClause::Refused(code) => pushed(found, PlanClause::Refused(code)),
     }
-}
-
-/// Makes known what the slot of a variable holds, and that of its position, where it has one.
-fn bind(known: &mut Vec<Held>, held: Held, at: bool) -> Result<(), AllocError>
-    ensures { OnOk result (known.new.items ≡ known.old.items ++ parts.with_position held at) }
-{
-    known.push(held)?;
-    if at {
-        known.push(Held::Anything)?;
-    }
-    Ok(())
-}
-
-/// Nothing is known any more of the slots from a place on.
-fn forget(known: &mut Vec<Held>, outer: usize) -> Result<(), AllocError>
-    requires { outer ≤ length known.old.items }
-    ensures { OnOk result (known.new.items ≡ parts.forgotten outer known.old.items) }
-{
-    let count = known.len();
-    known.truncate(outer);
-    known.resize(count, Held::Anything)
 }

@@ -1,5 +1,5 @@
 -- What the parts of a plan are to those of the plan that it becomes, where the slots are as known.
-use Rattle.std.specs.Prelude.{◌≡◌, ◌≤◌, ℕ, List, [], ◌∷◌, ◌++◌, map, reverse, length, take, replicate, ◌-◌, Bool, true, false, Option, Ok, Err}
+use Rattle.std.specs.Prelude.{◌≡◌, ◌≤◌, ℕ, List, [], ◌∷◌, ◌++◌, map, length, take, replicate, ◌-◌, Bool, true, false, Option, Ok, Err}
 use Rattle.std.specs.List.{AllByRecursion}
 use Rattle.xq_atoms.specs.Text.{Text}
 use Rattle.xq_expressions.specs.declared.operators.OrderModifier.{OrderModifier}
@@ -151,26 +151,6 @@ SameClauses start known cs ds last =
     Follows last slots
     (in_turn (next_clause (frame_of slots focus addresses)) tuples (map plan_clause_mean cs) trees)
     (in_turn (next_clause (frame_of slots focus addresses)) tuples (map plan_clause_mean ds) trees)
-
--- clauses that are left, the last first, and others that give the same
-abbrev pub SameRest : ℕ → List Held → List PlanClause → List PlanClause → Type 0
-SameRest start known old new =
-    (slots : Slots) (focus : Option Focus) (addresses : List Text) → length slots ≡ start →
-    (tuples : List (Tuple Item)) (trees : List Tree) → AllFit known slots tuples →
-    in_turn (next_clause (frame_of slots focus addresses)) tuples
-    (map plan_clause_mean (reverse new)) trees
-    ≡ in_turn (next_clause (frame_of slots focus addresses)) tuples
-    (map plan_clause_mean (reverse old)) trees
-
--- two clauses that give the same in either order
-abbrev pub Swaps : List Held → PlanClause → PlanClause → Type 0
-Swaps known c d =
-    (slots : Slots) (focus : Option Focus) (addresses : List Text)
-    (tuples : List (Tuple Item)) (trees : List Tree) → AllFit known slots tuples →
-    in_turn (next_clause (frame_of slots focus addresses)) tuples
-    (map plan_clause_mean (c ∷ d ∷ [])) trees
-    ≡ in_turn (next_clause (frame_of slots focus addresses)) tuples
-    (map plan_clause_mean (d ∷ c ∷ [])) trees
 
 -- nothing is known of the slots from a place on
 abbrev pub forgotten : ℕ → List Held → List Held

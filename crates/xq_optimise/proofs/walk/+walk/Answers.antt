@@ -11,6 +11,8 @@ use Rattle.xq_optimise.specs.private.Parts.{SameOperand, SameCall, SameKey, Same
 use Rattle.xq_optimise.proofs.Forms as forms
 use Rattle.xq_optimise.proofs.Forms.{gives_at, known_at, all_known_at, itself, step_itself, each_gives}
 use Rattle.xq_optimise.proofs.Flwor.{flwor_gives}
+use Rattle.xq_optimise.specs.private.Order.{SameTurns}
+use Rattle.xq_optimise.proofs.Rising.{flwor_sorted}
 use Rattle.xq_optimise.proofs.Splitting.{step_same_on}
 use Rattle.xq_optimise.proofs.Ranges.{quantified_gives}
 use Rattle.xq_optimise.proofs.Loops.{left_next, turned_size, range_next, clause_added, for_adds, let_adds, tests_add, order_adds, count_adds, group_adds, adds_at, ranges_left}
@@ -171,9 +173,23 @@ ranges-loop-range-preserved t c =
 
 pub flwor-returns-clause-same : goal.flwor-returns-clause-same
 flwor-returns-clause-same t c =
-    flwor_gives c.args.known.now.items c.clauses.new.known.items c.args.list c.in_ok-list.list c.args.part c.in_ok-part.part
-    (subst (λ n. SameClauses n c.args.known.now.items c.args.list c.in_ok-list.list c.clauses.new.known.items) (c.len-outer.ensures ∙ c.args.known.now.ok.0) c.in_ok-list.ensures.same)
-    c.in_ok-part.ensures.same
+    let known = c.args.known.now.items in
+    let list = c.in_ok-list.list in
+    let part = c.in_ok-part.part in
+    let found = c.in_ok-sorted.sorted in
+    let kept = scope_left c.len-outer.result known c.clauses.new.known.items c.boxed.new.known.items c.truncate.new.self.items (c.len-outer.ensures ∙ c.args.known.now.ok.0)
+    c.in_ok-list.ensures.outer.outer c.in_ok-part.ensures.kept c.truncate.ensures.items in
+    forms.then_gives known (plan.Flwor c.args.list c.args.part) (plan.Flwor list part) (plan.Flwor found part)
+    (flwor_gives known c.clauses.new.known.items c.args.list list c.args.part part
+    (subst (λ n. SameClauses n known c.args.list list c.clauses.new.known.items) (c.len-outer.ensures ∙ c.args.known.now.ok.0) c.in_ok-list.ensures.same)
+    c.in_ok-part.ensures.same)
+    (flwor_sorted known list found part (subst (λ k. SameTurns (length k) k list found) kept c.in_ok-sorted.ensures.same))
+
+pub flwor-returns-clause-kept : goal.flwor-returns-clause-kept
+flwor-returns-clause-kept t c =
+    c.in_ok-sorted.ensures.kept
+    ∙ scope_left c.len-outer.result c.args.known.now.items c.clauses.new.known.items c.boxed.new.known.items c.truncate.new.self.items (c.len-outer.ensures ∙ c.args.known.now.ok.0)
+    c.in_ok-list.ensures.outer.outer c.in_ok-part.ensures.kept c.truncate.ensures.items
 
 pub clauses-loop-next-preserved : goal.clauses-loop-next-preserved
 clauses-loop-next-preserved t c =

@@ -1,0 +1,18 @@
+use Rattle.std.proofs.Common.{refl, sym, ap, ◌∙◌, subst, arith}
+use Rattle.xq_optimise.specs.private.Order.{SameRest}
+use Rattle.xq_optimise.proofs.Loops.{extends_itself, scope_left}
+use Rattle.xq_optimise.proofs.Rising.{none_arranged, clause_arranged, arranged_done}
+use Rattle.xq_optimise.proofs.order.arranged.Goals as goal
+
+pub loop-next-init : goal.loop-next-init
+loop-next-init c =
+    none_arranged c.args.list c.in_ok-turned.turned.items c.in_ok-first.first.items c.new-found.result c.len-outer.result c.args.known.now.items
+    (omega (arith, c.len-outer.ensures, c.args.known.now.ok.0)) c.in_ok-turned.ensures
+    (λ n. subst (λ k. SameRest n k c.in_ok-turned.turned.items c.in_ok-first.first.items) c.deref.ensures.value (c.in_ok-first.ensures.same n)) c.new-found.ensures
+
+pub loop-next-preserved : goal.loop-next-preserved
+loop-next-preserved c =
+    clause_arranged c.args.list c.loop-next.left.items c.pop.new.self.items c.in_ok-left.left.items c.loop-next.found c.push.new.self c.len-outer.result
+    c.args.known.now.items c.loop-next.known.items c.follow.new.known.items c.in-Some.next
+    c.loop-next.invariant c.in-Some.ensures.items c.in_ok-follow.ensures.same c.in_ok-follow.ensures.outer c.in_ok-push.ensures.ok
+    (λ n. subst (λ k. SameRest n k c.pop.new.self.items c.in_ok-left.left.items) c.deref-in-Some.ensures.value (c.in_ok-left.ensures.same n))

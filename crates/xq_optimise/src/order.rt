@@ -1,0 +1,191 @@
+//! The order of clauses that can't be refused: an equality stands as near as it may to the `for`
+//! before it, where the two are a join (XQuery 3.1, section 3.12).
+ghost use Rattle.std.specs.Prelude.{◌≡◌, ◌≤◌, ◌++◌, ◌∷◌, [], ℕ, length, reverse, true, IfOk, OnOk};
+ghost use Rattle.xq_optimise.specs.private.Order.{IsPassed, Rises, SameRest, SameTurns};
+ghost use Rattle.xq_optimise.specs.private.Parts as parts;
+
+use crate::held::Held;
+use crate::kinds::held_by;
+use crate::lists::reversed;
+use crate::scopes::{bind, forget};
+use crate::sure::{as_comparison, is_nodes, is_test};
+use sqlite_items::Items;
+use std::alloc::{AllocError, Global};
+use xq_expressions::Relation;
+use xq_meaning::{Plan, PlanClause};
+
+/// How many clauses a test goes over at most, so that the time for a list is in proportion to it.
+const MOST: usize = 16;
+
+/// Whether the test is a general comparison for equality.
+fn is_equality(test: &Plan) -> bool {
+    match as_comparison(test) {
+        Some(found) => match found.relation {
+            Relation::Equal => true,
+            _ => false,
+        },
+        None => false,
+    }
+}
+
+/// Whether the clause is an equality that can't be refused and reads slots that are known.
+fn is_rising(known: &[Held], clause: &PlanClause) -> bool
+    ensures { result ≡ true → Rises known.now clause.now }
+{
+    let PlanClause::Where(test) = clause else {
+        return false;
+    };
+    is_equality(test) && is_test(known, test)
+}
+
+/// Whether a test may as well come before the clause: another test, or nodes for a variable.
+fn is_passed(known: &[Held], clause: &PlanClause) -> bool
+    ensures { result ≡ true → IsPassed known.now clause.now }
+{
+    match clause {
+        PlanClause::Where(test) => is_test(known, test),
+        PlanClause::Let(value) => is_nodes(known, value),
+        _ => false,
+    }
+}
+
+/// The clauses that are left, of which the last comes next, after others that come before them.
+fn put_back(left: Vec<PlanClause>, others: Vec<PlanClause>) -> Result<Vec<PlanClause>, AllocError>
+    ensures { IfOk result (λ after. after.items ≡ left.items ++ reverse others.items) }
+{
+    let mut after = left;
+    let mut others = others;
+    while let Some(clause) = others.pop() {
+        after.push(clause)?;
+    }
+    Ok(after)
+}
+
+/// The clauses that are left, with the next one before those that it goes over.
+fn with_first(
+    left: Vec<PlanClause>,
+    passed: Vec<PlanClause>,
+    next: PlanClause,
+) -> Result<Vec<PlanClause>, AllocError>
+    ensures { IfOk result (λ after.
+        after.items ≡ (left.items ++ reverse passed.items) ++ next ∷ []) }
+{
+    let mut after = put_back(left, passed)?;
+    after.push(next)?;
+    Ok(after)
+}
+
+/// The clauses that are left, with the next one behind those before it.
+fn unmoved(
+    left: Vec<PlanClause>,
+    passed: Vec<PlanClause>,
+    next: PlanClause,
+) -> Result<Vec<PlanClause>, AllocError>
+    ensures { IfOk result (λ after.
+        after.items ≡ (left.items ++ next ∷ []) ++ reverse passed.items) }
+{
+    let mut left = left;
+    left.push(next)?;
+    put_back(left, passed)
+}
+
+/// Whether a test that goes over so many clauses may go over one more.
+fn may_pass(known: &[Held], passed: &[PlanClause], next: &PlanClause) -> bool
+    ensures { result ≡ true → IsPassed known.now next.now }
+{
+    passed.len() < MOST && is_passed(known, next)
+}
+
+/// The clauses that are left, of which the last comes next: first an equality that may come before
+/// those that stand before it.
+fn risen(
+    alloc: Global,
+    known: &[Held],
+    left: Vec<PlanClause>,
+) -> Result<Vec<PlanClause>, AllocError>
+    ensures same { IfOk result (λ after. (start : ℕ)
+        → SameRest start known.now left.items after.items) }
+    ensures long { IfOk result (λ after. length after.items ≡ length left.items) }
+{
+    let mut left = left;
+    let mut passed = Vec::new(alloc);
+    while let Some(next) = left.pop() {
+        if is_rising(known, &next) {
+            return with_first(left, passed, next);
+        }
+        if !may_pass(known, passed.as_slice(), &next) {
+            return unmoved(left, passed, next);
+        }
+        passed.push(next)?;
+    }
+    put_back(left, passed)
+}
+
+/// Makes known what the slots hold after a clause.
+fn follow(known: &mut Vec<Held>, outer: usize, next: &PlanClause) -> Result<(), AllocError>
+    requires { outer ≤ length known.old.items }
+    ensures same { OnOk result
+        (parts.SameMany outer known.old.items next.now (next.now ∷ []) known.new.items) }
+    ensures outer { OnOk result (parts.Extends outer known.old.items known.new.items) }
+{
+    match next {
+        PlanClause::For(_, at, range) => {
+            let held = held_by(known, range);
+            bind(known, held, *at)
+        }
+        PlanClause::Let(value) => {
+            let held = held_by(known, value);
+            bind(known, held, false)
+        }
+        PlanClause::Group(_) => forget(known, outer),
+        PlanClause::Count => bind(known, Held::Anything, false),
+        PlanClause::Where(_) => Ok(()),
+        PlanClause::Order(_) => Ok(()),
+        PlanClause::Refused(_) => Ok(()),
+    }
+}
+
+/// Whether a clause stands before the first equality that may go over it.
+fn have_late_equality(list: &[PlanClause]) -> bool {
+    let mut may_pass = false;
+    for clause in list {
+        match clause {
+            PlanClause::Where(test) => {
+                if may_pass && is_equality(test) {
+                    return true;
+                }
+                may_pass = !is_equality(test);
+            }
+            PlanClause::Let(_) => may_pass = true,
+            _ => may_pass = false,
+        }
+    }
+    false
+}
+
+/// Clauses that give the same, in the better order.
+pub fn arranged(
+    alloc: Global,
+    known: &mut Vec<Held>,
+    list: Items<PlanClause>,
+) -> Result<Items<PlanClause>, AllocError>
+    ensures same { IfOk result (λ found.
+        SameTurns (length known.old.items) known.old.items list found) }
+    ensures kept { OnOk result (known.new.items ≡ known.old.items) }
+{
+    if !have_late_equality(list.as_slice()) {
+        return Ok(list);
+    }
+    let outer = known.len();
+    let turned = reversed(alloc, list)?;
+    let first = risen(alloc, known, turned)?;
+    let mut left = first;
+    let mut found = Items::new(alloc);
+    while let Some(next) = left.pop() {
+        follow(known, outer, &next)?;
+        found.push(next)?;
+        left = risen(alloc, known, left)?;
+    }
+    known.truncate(outer);
+    Ok(found)
+}
