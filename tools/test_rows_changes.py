@@ -16,8 +16,14 @@ from test_rows import command
 from test_rows_files import OverFile, shown
 
 ROWS = ("SELECT address || ' ' || pre || ' ' || size || ' ' || level || ' ' || kind || ' ' || name "
-        "|| ' ' || value FROM node2 INNER JOIN label ON label = id ORDER BY address, pre")
+        "|| ' ' || value FROM node2 INNER JOIN label ON label = id WHERE address <> 'a' "
+        "ORDER BY address, pre")
 FRONT = Row(b"Q", b'count(doc("m")/node()[1])', 0, b"")
+# An opening keeps rows document after document. This one leaves no room for another in a megabyte:
+# its two rows take 24 bytes each, the empty name 64, and the text the rest but for less than 100.
+FULL = Row(b"S", row_tables.store_body("a", b'document {text {string-join(for $n in 1 to 10484 '
+                                       b'return "%s", "")}}' % (b"x" * 100)), 0, b"")
+A_MEGABYTE = ("--kept", "1")
 ROUND = ("first", "path", "tuple", "number", "content", "node", "function", "static")
 DOCUMENTS, STEPS = 300, 1_500
 # A document by the numbers of its nodes, and the one that replaces it: runs of numbers, each up to,
@@ -57,10 +63,10 @@ def instructions(runs: Runs) -> str:
 class ChangeTest(OverFile):
     """Documents in the place of others, on a file."""
 
-    def run_rows(self, rows: Sequence[Row]) -> None:
-        """Sends these to a server over the file; none is refused."""
+    def run_rows(self, rows: Sequence[Row], *words: str) -> None:
+        """Sends these to a server over the file, with these words; none is refused."""
         data = b"".join(row_runs.request(1, row) for row in rows)
-        ended = row_runs.served(self.over_file(), data)
+        ended = row_runs.served([*self.over_file(), *words], data)
         self.assertEqual((ended.status, ended.line), (0, ""))
         self.assertEqual([it.status for it in row_runs.replies(ended.output)], [0] * len(rows))
 
@@ -80,9 +86,10 @@ class ChangeTest(OverFile):
         if case.kept is Kept.WHOLE:
             self.run_rows([stored(query) for query in queries])
             return
+        self.run_rows([FULL])
         front = [FRONT] if case.kept is Kept.FRONT else []
         for before, query in zip([None, *queries], queries):
-            self.run_rows([*(front if before else []), stored(query)])
+            self.run_rows([*(front if before else []), stored(query)], *A_MEGABYTE)
 
     def test_edits_leave_what_the_last_document_leaves(self) -> None:
         for case in row_edits.cases():

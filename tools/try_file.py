@@ -228,18 +228,22 @@ def edit(chance: random.Random, elements: list[str]) -> None:
 
 def edited(program: pathlib.Path, folder: pathlib.Path) -> None:
     """Documents that are put one over the other leave the rows that the last leaves in a new file,
-    also where the server was started in between, so that none of its rows are kept."""
+    also where the server was started in between, and another document filled what the opening
+    keeps, so that none of their rows are kept."""
+    full = b'document {text {string-join(for $n in 1 to 10484 return "%s", "")}}' % (b"x" * 100)
     for seed in range(6):
         chance = random.Random(seed)
         path, fresh = folder / ("edited%d.db" % seed), folder / ("fresh%d.db" % seed)
         elements = [element(chance) for _ in range(600 if seed == 0 else 20)]
-        server = Server([program, "--file", path])
+        words = [program, "--file", path, "--kept", "1"]
+        server = Server(words)
+        server.ask(b"S", store(b"a", full))
         for _ in range(12):
             text = ("document {%s}" % ", ".join(elements)).encode()
             server.ask(b"S", store(b"b", text))
             if chance.randrange(3) == 0:
                 server.end()
-                server = Server([program, "--file", path])
+                server = Server(words)
                 server.ask(b"Q", chance.choice((b"()", b'name(doc("b")/*[1])')))
             edit(chance, elements)
         server.end()

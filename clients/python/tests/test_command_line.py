@@ -13,7 +13,8 @@ import xqs
 from tests.serving import RunningMux
 from tests.support import FolderTest, file_server, server_command
 from xqs import NotStarted, connect
-from xqs.cli import COMMANDS, main, with_server
+from xqs.cli import COMMANDS, connection_options, main, server_of, with_server
+from xqs.endpoints import Command
 from xqs.in_use import file_of, holders, why_not_opened
 
 
@@ -53,6 +54,21 @@ class Words(FolderTest):
         self.assertEqual(with_server(COMMANDS["list"], ["--", "a", "b c"]),
                          ["--server", "a 'b c'"])
         self.assertEqual(ran("query", "1", "--", "/nowhere/server")[0], 1)
+
+    def test_how_much_a_server_keeps(self) -> None:
+        for words, command in (
+            ("--kept 300", "./serve --kept 300"), ("", "./serve"),
+            ("--kept=1048576 --file x.db", "./serve --file x.db --kept 1048576"),
+        ):
+            given = connection_options().parse_args(["--server", "./serve", *words.split()])
+            self.assertEqual(server_of(given), Command(tuple(command.split())))
+        for word in ("0", "1048577", "-1", "1.5", "many", ""):
+            status, out, said = ran("list", "--server", "./serve", f"--kept={word}")
+            self.assertEqual((status, out), (2, ""))
+            self.assertIn(f"--kept: not a number from 1 to 1,048,576: {word!r}", said)
+        status, out, said = ran("list", "--server", "unix:x.sock", "--kept", "5")
+        self.assertEqual((status, out), (1, ""))
+        self.assertIn("--kept goes with a command that is started, not with unix:x.sock", said)
 
     def test_documents_in_memory(self) -> None:
         file = self.folder / "a.xml"

@@ -9,11 +9,12 @@ use sqlite::{Alter, Connection};
 use xq_store::Store;
 
 /// The store of a database that was opened: of its documents, or of none where it has no table.
-/// Where it is refused it is still held as its log is removed.
+/// Where it is refused it is still held as its log is removed. So many bytes of rows are kept at most.
 pub fn adopted<S: Alter + Drop>(
     rt: &HostRuntime,
     conn: Connection<S>,
     log: Option<String>,
+    kept: Option<usize>,
 ) -> Option<Store<S>>
     ensures known { IfSome result (λ store. IsBlank S.Store conn ⊎ HasTables S.Store conn) }
     ensures made { IfSome result (λ store. IsClean S.Store store → IsBlank S.Store conn
@@ -27,7 +28,7 @@ pub fn adopted<S: Alter + Drop>(
     if !conn.is_autocommit() {
         return None;
     }
-    match Store::adopt(rt.alloc(), conn) {
+    match Store::adopt(rt.alloc(), conn, kept) {
         Ok(store) => Some(store),
         Err((_fault, _held)) => {
             remove_log(rt, log);

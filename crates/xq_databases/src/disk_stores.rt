@@ -26,12 +26,16 @@ const LOG_BYTES: usize = 4_096_000;
 /// its bytes stay, and no log is left beside it that wasn't there. A new file gets a sum on each
 /// page, so that an opening finds changed bytes.
 ///
+/// `kept` says how many bytes are kept at most of what the opening and queries read, beside those of
+/// the document that was wanted last; none leaves that to the store.
+///
 /// `start` stands for what the files hold as they are opened, which no code can read. While the disk
 /// returns what was written, the store stands for the documents that they held.
 pub fn open_store<S: Start>(
     rt: &HostRuntime,
     path: &str,
     start: S,
+    kept: Option<usize>,
 ) -> Option<Store<FileStore<FileFrom<S>>>>
     ensures found { IfSome result (λ store. IsClean over_files store
         → StandsForFiles (image_at S.Start) store) }
@@ -50,7 +54,7 @@ pub fn open_store<S: Start>(
     };
     let files = files_at(rt, path, start)?;
     match database_in(rt.alloc(), files, bounds, true) {
-        Ok(conn) => adopted(rt, conn, log),
+        Ok(conn) => adopted(rt, conn, log, kept),
         Err((_want, _held)) => {
             remove_log(rt, log);
             None

@@ -36,7 +36,7 @@ impl MemoryStore {
         ensures open { IfOk result (λ made. IsOpen over_files made.store) }
         ensures none { IfOk result (λ made. StandsFor over_files made.store empty) }
     {
-        match Store::adopt(alloc, new_database(alloc)?) {
+        match Store::adopt(alloc, new_database(alloc)?, None) {
             Ok(store) => Ok(MemoryStore { store }),
             Err((OpenFault::Want(want), _held)) => Err(want),
             Err((OpenFault::NotAStore, _held)) => Err(Want::Store),

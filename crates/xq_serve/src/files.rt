@@ -21,7 +21,7 @@ pub fn serve_file<S: Start, R: Read, W: Write>(
     writer: &mut Counted<W>,
     max_frames: u64,
 ) -> Option<(End, Option<Files<FileFrom<S>>>)> {
-    let store = open_store(rt, path, start)?.keeping(kept);
+    let store = open_store(rt, path, start, kept)?;
     let mut server = Server::new(rt.alloc(), store);
     let end = server.serve(reader, writer, max_frames);
     let store = server.into_store();

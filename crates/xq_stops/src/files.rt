@@ -138,7 +138,7 @@ pub(crate) fn adopted(
     if !conn.is_autocommit() {
         return Err(conn.into_store().close());
     }
-    match Store::adopt(alloc, conn) {
+    match Store::adopt(alloc, conn, None) {
         Ok(store) => Ok(store),
         Err((_fault, conn)) => Err(conn.into_store().close()),
     }

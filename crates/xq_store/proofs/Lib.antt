@@ -9,3 +9,4 @@ pub mod Parents
 pub mod Values
 pub mod CountedAttributes
 pub mod Carried
+pub mod Found

@@ -15,7 +15,6 @@ ghost use Rattle.xq_tables.specs.Editions.{AreTables};
 ghost use Rattle.xq_store.specs.private.Shelves.{AreFronts};
 ghost use Rattle.xq_tables.specs.Writes.{IsEmptyStore};
 
-use crate::listings::list_shelf;
 use crate::shelves::Cache;
 use sqlite::{Alter, Connection};
 use std::alloc::Global;
@@ -94,10 +93,11 @@ fn adopt_blank<S: Alter>(
     Ok(Cache::empty(alloc))
 }
 
-/// Takes the tables of edition 2 as they stand.
+/// Takes the tables of edition 2 as they stand. Of their rows so many bytes are kept at most.
 fn adopt_store<S: Alter>(
     alloc: Global,
     conn: &mut Connection<S>,
+    bound: usize,
 ) -> Result<Option<Cache>, OpenFault>
     requires outside { conn.old.in_transaction ≡ false }
     requires tables { IsStoreSchema (state S.Store conn.old).now.schema }
@@ -114,16 +114,18 @@ fn adopt_store<S: Alter>(
     ensures shelf { IfOk result (λ kept. IfSome kept (λ shelf. IsReady (state S.Store conn.new)
         → AreOf (state S.Store conn.new).now shelf.addresses.value shelf.fronts.items)) }
 {
-    check_store(alloc, conn)?;
-    let shelf = list_shelf(alloc, conn)?;
+    let found = check_store(alloc, conn, bound)?;
+    let shelf = Cache::of_found(alloc, found)?;
     Ok(Some(shelf))
 }
 
-/// Adopts these tables. What is kept of the documents is given, where there is memory for it.
+/// Adopts these tables. What is kept of the documents is given, where there is memory for it: of
+/// rows that were read so many bytes at most.
 pub(crate) fn adopt_tables<S: Alter>(
     alloc: Global,
     conn: &mut Connection<S>,
     tables: Tables,
+    bound: usize,
 ) -> Result<Option<Cache>, OpenFault>
     requires outside { conn.old.in_transaction ≡ false }
     requires tables { AreTables tables (state S.Store conn.old).now.schema }
@@ -143,6 +145,6 @@ pub(crate) fn adopt_tables<S: Alter>(
     match tables {
         Tables::Blank => adopt_blank(alloc, conn),
         Tables::Old => carry_over(alloc, conn),
-        Tables::Current => adopt_store(alloc, conn),
+        Tables::Current => adopt_store(alloc, conn, bound),
     }
 }

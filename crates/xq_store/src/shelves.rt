@@ -1,6 +1,7 @@
 //! What a store keeps in memory of its documents: their addresses, and of each the first rows.
-ghost use Rattle.std.specs.Prelude.{◌≡◌, ◌+◌, ◌*◌, ◌<◌, ◌≤◌, [], List, Some, IfOk, IfSome, IsTrue, length, map, slice_get};
-ghost use Rattle.std.specs.List.{enumerate_from, insert, remove, slice_set as set};
+ghost use Rattle.std.specs.Prelude.{◌≡◌, ◌+◌, ◌*◌, ◌<◌, ◌≤◌, ℕ, [], List, Some, IfOk, IfSome, IsTrue, length, map, slice_get, string_bytes};
+ghost use Rattle.std.specs.List.{AllByRecursion, enumerate_from, insert, remove, slice_set as set};
+ghost use Rattle.xq_tables.specs.Found.{IsFoundAt, found_address};
 ghost use Rattle.xq_sources.specs.Addresses.{IsGap};
 ghost use Rattle.xq_trees.specs.Rows.{placed_rows};
 ghost use Rattle.xq_trees.specs.Forest.{count};
@@ -16,6 +17,7 @@ use std::rc::Rc;
 use xq_atoms::Want;
 use xq_packed::{PackedRows, PackedTree};
 use xq_sources::{Addresses, Guide, LentRows, Meter, NameIndex, Values, find_named, find_values};
+use xq_tables::{FoundDocument, kept_bytes};
 
 /// What is kept of a document: its first rows, and what was found among them.
 #[derive(Drop)]
@@ -69,7 +71,14 @@ impl CachedDocument {
     pub fn whole(alloc: Global, document: PackedTree, wanted: u64) -> CachedDocument
         ensures { IsFrontOf document result }
     {
-        let rows = document.into_rows();
+        CachedDocument::of_rows(alloc, document.into_rows(), wanted)
+    }
+
+    /// The first rows of a document, wanted at a time. Where memory is short they are without a
+    /// guide.
+    fn of_rows(alloc: Global, rows: PackedRows, wanted: u64) -> CachedDocument
+        ensures { (t : Tree) → IsFront t (enumerate_from 0 rows.rows) → IsFrontOf t result }
+    {
         let mut guide = Guide::new(alloc);
         let _ = guide.read_on(&all_of(&rows));
         CachedDocument {
@@ -101,9 +110,7 @@ impl CachedDocument {
     /// How many bytes are kept at most: rows with their values, and of each row the place of its
     /// parent, and its place among those of its name.
     pub fn bytes(&self) -> usize {
-        self.rows
-            .bytes()
-            .saturating_add(self.rows.len().saturating_mul(8))
+        kept_bytes(&self.rows)
     }
 
     /// The rows, lent.
@@ -247,6 +254,31 @@ fn no_rows(alloc: Global, count: usize) -> Result<Vec<CachedDocument>, Want>
     Ok(fronts)
 }
 
+/// The addresses of documents that an opening found, what is kept of each of them, and how many bytes
+/// that are in all.
+fn cached(
+    alloc: Global,
+    documents: Vec<FoundDocument>,
+) -> Result<(Vec<String>, Vec<CachedDocument>, usize), Want>
+    ensures addresses { IfOk result (λ all. map string_bytes all.0.items
+        ≡ map found_address documents.items) }
+    ensures fronts { IfOk result (λ all. (f : List ℕ → Tree)
+        → AllByRecursion (λ d. IsFoundAt (f (found_address d)) d) documents.items
+        → AreFronts (map f (map found_address documents.items)) all.1.items) }
+{
+    let mut addresses = Vec::with_capacity(alloc, documents.len())?;
+    let mut fronts = Vec::with_capacity(alloc, documents.len())?;
+    let mut kept = 0usize;
+    for document in documents {
+        let FoundDocument { address, rows } = document;
+        let front = CachedDocument::of_rows(alloc, rows, 0);
+        kept = kept.saturating_add(front.bytes());
+        addresses.push(address)?;
+        fronts.push(front)?;
+    }
+    Ok((addresses, fronts, kept))
+}
+
 impl Cache {
     /// No address. Where memory is short there is none.
     pub fn empty(alloc: Global) -> Option<Cache>
@@ -273,6 +305,27 @@ impl Cache {
             addresses: Rc::new(alloc, addresses)?,
             fronts,
             kept: 0,
+            clock: 0,
+            stays: true,
+        })
+    }
+
+    /// The documents that an opening found, with the rows that it kept.
+    pub fn of_found(alloc: Global, documents: Vec<FoundDocument>) -> Result<Cache, Want>
+        ensures addresses { IfOk result (λ shelf.
+            shelf.addresses.value ≡ map found_address documents.items) }
+        ensures fronts { IfOk result (λ shelf. (f : List ℕ → Tree)
+            → AllByRecursion (λ d. IsFoundAt (f (found_address d)) d) documents.items
+            → AreFronts (map f (map found_address documents.items)) shelf.fronts.items) }
+    {
+        let (list, fronts, kept) = cached(alloc, documents)?;
+        let Some(addresses) = Addresses::from_rising(list) else {
+            return Err(Want::Store);
+        };
+        Ok(Cache {
+            addresses: Rc::new(alloc, addresses)?,
+            fronts,
+            kept,
             clock: 0,
             stays: true,
         })

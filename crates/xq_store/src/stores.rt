@@ -132,13 +132,19 @@ impl<S: Alter> Store<S> {
     /// database holds no table they are made, and there is no document. The documents of tables of
     /// edition 1 are carried over into those of edition 2, and `node` is left empty.
     ///
-    /// Tables that are there are read a row at a time, with the rows of one document in hand; what is
-    /// made or carried over is so in one transaction. A refusal gives the connection back, with the
+    /// Tables that are there are read a row at a time, with the rows of one document in hand. Those of
+    /// edition 2 are kept for queries, as far as they take no more than so many bytes, 134,217,728
+    /// where no number is given; so many are kept from then on. What is made or carried over is so in
+    /// one transaction. A refusal gives the connection back, with the
     /// database as it was: [`OpenFault::NotAStore`] where it holds anything else than the tables as a
     /// store of either edition makes them, another edition than these tables have, labels that are
     /// not those of a store, or rows that are not those of documents under good addresses, and
     /// [`OpenFault::Want`] where memory runs out or the database refuses for another cause.
-    pub fn adopt(alloc: Global, conn: Connection<S>) -> Result<Store<S>, (OpenFault, Connection<S>)>
+    pub fn adopt(
+        alloc: Global,
+        conn: Connection<S>,
+        kept: Option<usize>,
+    ) -> Result<Store<S>, (OpenFault, Connection<S>)>
         requires { conn.in_transaction ≡ false }
         ensures made { IfOk result (λ store. IsClean S.Store store → IsBlank S.Store conn
             → StandsFor S.Store store empty) }
@@ -162,15 +168,16 @@ impl<S: Alter> Store<S> {
             → IsOpen S.Store conn) }
     {
         let mut conn = conn;
+        let bound = kept.unwrap_or(USUAL_BOUND);
         let Some(tables) = tables_in(conn.schema()) else {
             return Err((OpenFault::NotAStore, conn));
         };
-        match adopt_tables(alloc, &mut conn, tables) {
+        match adopt_tables(alloc, &mut conn, tables, bound) {
             Ok(shelf) => Ok(Store {
                 alloc,
                 conn,
                 shelf,
-                bound: USUAL_BOUND,
+                bound,
             }),
             Err(fault) => Err((fault, conn)),
         }

@@ -49,5 +49,5 @@ pub fn adopt<S: Alter>(
     if !conn.is_autocommit() {
         return Err((OpenFault::Want(Want::Memory), conn));
     }
-    Store::adopt(alloc, conn)
+    Store::adopt(alloc, conn, None)
 }

@@ -16,7 +16,8 @@ use Rattle.sqlite.specs.Listing.{understood, reads_listing, IsSourceOf}
 use Rattle.sqlite.specs.State.{IsStatement}
 use Rattle.sqlite.proofs.Callers.{IsPlain, EndsIn, begun_plain, given_begin, begins_shown, unchanged_then}
 use Rattle.xq_tables.specs.Documents.{AreApart, HaveInts}
-use Rattle.xq_tables.specs.private.Adopt.{by_place, AreDocumentRuns, IsBare, IsSelect, ShowsDocuments, ShowsIds, ShowsNoDocuments, ShowsOthers}
+use Rattle.xq_tables.specs.declared.findings.FoundDocument.{FoundDocument}
+use Rattle.xq_tables.specs.private.Adopt.{by_place, AreDocumentRuns, AreFoundIn, IsBare, IsSelect, ShowsDocuments, ShowsIds, ShowsNoDocuments, ShowsOthers}
 use Rattle.xq_tables.specs.private.Streams.{GivesRows}
 use Rattle.xq_tables.proofs.Streams.{gives_shown, shown_since, unchanged_itself}
 
@@ -31,9 +32,9 @@ module _ {S : Type 0} (g : Ghosts S) (old begun new : Held S) (text : List ℕ) 
       let all = gives_shown g text [] old begun it plain new (λ given. AreApart given × HaveInts given × (count ≡ length given)) gives in
       (new, all.0, all.1, all.2.0, all.2.1, all.2.2)
 
-  pub documents_streamed : (count : ℕ) → GivesRows g begun new (λ given. (IsSorted by_place given → AreDocumentRuns given) × (count ≡ length given)) → ShowsDocuments g text old count
-  documents_streamed count gives =
-      let all = gives_shown g text [] old begun it plain new (λ given. (IsSorted by_place given → AreDocumentRuns given) × (count ≡ length given)) gives in
+  pub documents_streamed : (found : List FoundDocument) (count : ℕ) → GivesRows g begun new (λ given. (IsSorted by_place given → AreDocumentRuns given × AreFoundIn given found) × (count ≡ length given)) → ShowsDocuments g text old found count
+  documents_streamed found count gives =
+      let all = gives_shown g text [] old begun it plain new (λ given. (IsSorted by_place given → AreDocumentRuns given × AreFoundIn given found) × (count ≡ length given)) gives in
       (new, all.0, all.1, all.2.0, all.2.1)
 
   -- rows that were given begin an answer

@@ -1,11 +1,12 @@
 -- The rows that an adoption reads, and the table that they are of.
-use Rattle.std.proofs.Common.{◌≡◌, ◌≢◌, ◌⊎◌, inl, inr, ◌+◌, ◌≤◌, ℕ, ℤ, suc, Bool, true, false, cond, if◌then◌else◌, List, [], ◌∷◌, ◌++◌, map, filter, length, take, drop, slice_get, Option, None, Some, IsTrue, refl, sym, ap, ap₂, subst, ◌∙◌, arith, Ordering, Less, Equal, Greater, is_lt, is_gt, append-nil, append_assoc, add-one}
+use Rattle.std.proofs.Common.{◌≡◌, ◌≢◌, ◌⊎◌, inl, inr, ◌+◌, ◌≤◌, ℕ, ℤ, suc, Bool, true, false, cond, if◌then◌else◌, List, [], ◌∷◌, ◌++◌, map, filter, length, take, drop, slice_get, get_or, pos, Option, None, Some, IsTrue, refl, sym, ap, ap₂, subst, subst₂, ◌∙◌, arith, Ordering, Less, Equal, Greater, is_lt, is_gt, append-nil, append_assoc, add-one}
 use Rattle.std.specs.Ordering.{is_eq, ordering_reverse, ordering_then}
 use Rattle.std.specs.Cmp.{IsTotalOrder, then_total, int_cmp_is}
-use Rattle.std.specs.List.{AllByRecursion}
+use Rattle.std.specs.FinMap.{keys}
+use Rattle.std.specs.List.{AllByRecursion, enumerate_from}
 use Rattle.std.specs.List.Sorted.{IsPermutation, IsSorted}
 use Rattle.std.proofs.lemmas.Cmp.{tied_itself, alike_right, upto, on_total}
-use Rattle.std.proofs.lemmas.List.{take-append-drop}
+use Rattle.std.proofs.lemmas.List.{length-map, map-append, take-append-drop}
 use Rattle.std.proofs.lemmas.List.Elements.{filter-append, All-from_recursion, recursion_from_All}
 use Rattle.std.proofs.lemmas.List.Sorted.{IsPermutation-map, IsPermutation-sym, IsPermutation-trans, length_permutation, All-permutation}
 use Rattle.sqlite_value.specs.Order.{Row, column, value_cmp}
@@ -24,14 +25,19 @@ use Rattle.sqlite_keyed.proofs.SortLemmas.{sorted_unique}
 use Rattle.sqlite.specs.Effect.{Database}
 use Rattle.sqlite.proofs.Callers.{one_permutation}
 use Rattle.xq_atoms.specs.Address.{IsAddress}
-use Rattle.xq_trees.specs.Rows.{rows as rows_of, placed_rows}
+use Rattle.xq_trees.specs.Rows.{Row as Node, rows as rows_of, placed_rows}
+use Rattle.xq_trees.specs.Tree.{Tree}
 use Rattle.xq_tables.specs.Nodes.{cells, bytes_in}
 use Rattle.xq_tables.specs.private.Columns.{node_of}
-use Rattle.xq_tables.specs.Documents.{AreApart, HaveInts, HasAddress, is_at, rows_at, by_first, IsIntact}
-use Rattle.xq_tables.specs.private.Adopt.{addressed_node, is_under, HasOwner, by_place, IsCut, AreJudged, IsRun, nodes_under, AreDocumentRuns, IsEdition, IsPast, AreNodes}
+use Rattle.xq_tables.specs.Documents.{AreApart, HaveInts, HasAddress, documents_in, is_at, is_first, rows_at, by_first, tree_at, IsIntact}
+use Rattle.xq_tables.specs.private.Adopt.{addressed_node, is_root, is_under, HasOwner, by_place, IsCut, AreFoundIn, AreJudged, IsFoundOf, IsRun, nodes_under, AreDocumentRuns, IsEdition, IsPast, AreNodes}
+use Rattle.xq_tables.specs.declared.findings.FoundDocument.{FoundDocument}
+use Rattle.xq_tables.specs.Found.{IsFoundAt, found_address}
 use Rattle.xq_tables.specs.Tables.{layout_rows}
+use Rattle.xq_tables.specs.Reads.{IsPicked}
+use Rattle.xq_tables.proofs.Keys.{alone, keys_are, no_roots}
 use Rattle.xq_tables.proofs.Lists.{tied}
-use Rattle.xq_tables.proofs.Maps.{text_is, same_address}
+use Rattle.xq_tables.proofs.Maps.{text_is, same_address, tree_back}
 use Rattle.xq_tables.proofs.Orders.{first_total, numbers_rise, sorted_from}
 use Rattle.xq_trees.proofs.Lists.{all_append}
 
@@ -292,6 +298,28 @@ other_owner a b r apart h = go (is_under b r) refl
     go false e = e
     go true e = absurd (apart (let f = sym (text_is (column r 6) b e) ∙ text_is (column r 6) a h in ap bytes_in f))
 
+-- the rows of a document have one root, the first
+some_nodes : (t : Tree) → map cells (placed_rows t) ≢ []
+some_nodes t none = absurd cc
+
+none_root : (rs : List Row) → filter is_root (map node_of rs) ≡ [] → filter is_root rs ≡ []
+none_root rs none = no_length (filter is_root rs) (sym (length-map (filter is_root rs) node_of) ∙ ap length (sym (filter-map is_root node_of rs) ∙ none))
+
+roots_in : (a : List ℕ) (run : List Row) (nodes : List Node) → nodes ≢ [] → AllByRecursion (λ r. is_under a r ≡ true) run → map node_of run ≡ map cells (enumerate_from 0 nodes)
+    → map (λ r. column r 6) (filter is_root run) ≡ Text a ∷ []
+roots_in a run [] some under same = absurd (some refl)
+roots_in a [] (n ∷ ns) some under same = absurd cc
+roots_in a (r ∷ rs) (n ∷ ns) some under same =
+    let head : node_of r ≡ cells (0, n) = ap (λ l. get_or l 0 []) same in
+    let tail : map node_of rs ≡ map cells (enumerate_from 1 ns) = ap (drop 1) same in
+    let zero_is : column r 0 ≡ Int (pos 0) = ap (λ l. column l 0) head in
+    let passes_it : is_root r ≡ true = ap (λ v. is_eq (value_cmp v (Int (pos 0)))) zero_is ∙ ap is_eq (tied_itself value_cmp_total (Int (pos 0))) in
+    let none = none_root rs (ap (filter is_root) tail ∙ no_roots 1 ns (omega arith)) in
+    ap (λ b. map (λ r. column r 6) (cond b (r ∷ filter is_root rs) (filter is_root rs))) passes_it ∙ ap (λ l. column r 6 ∷ map (λ r. column r 6) l) none ∙ ap (λ v. v ∷ []) (text_is (column r 6) a under.0)
+
+roots_of : (a : List ℕ) (run : List Row) (t : Tree) → AllByRecursion (λ r. is_under a r ≡ true) run → map node_of run ≡ map cells (placed_rows t) → map (λ r. column r 6) (filter is_root run) ≡ Text a ∷ []
+roots_of a run t under same = roots_in a run (rows_of t) (λ none. absurd cc) under same
+
 module _ (a : List ℕ) (first : Row) (own : column first 6 ≡ Text a) where
   pub passes : (r : Row) → r ≡ first → is_under a r ≡ true
   passes r same = ap (λ v. is_eq (value_cmp v (Text a))) (ap (λ x. column x 6) same ∙ own) ∙ ap is_eq (tied_itself value_cmp_total (Text a))
@@ -377,27 +405,54 @@ module _ (a : List ℕ) (first : Row) (own : column first 6 ≡ Text a) where
       ]
     ]
 
+    -- what was found stays as it was
+    others_stay : (d : FoundDocument) → IsFoundOf (nodes_under (found_address d) past) d → IsFoundOf (nodes_under (found_address d) (past ++ run)) d
+    others_stay d it = elim (same_address a (found_address d)) [
+      | inl e ↦
+          let gone_too : nodes_under (found_address d) past ≡ [] = ap (map node_of) (subst (λ x. filter (is_under x) past ≡ []) (sym e) before) in
+          absurd (some_nodes it.tree (sym it.same ∙ gone_too))
+      | inr apart ↦
+          let other_is : nodes_under (found_address d) (past ++ run) ≡ nodes_under (found_address d) past = ap (map node_of) (filter-append (is_under (found_address d)) past run ∙ ap (λ l. filter (is_under (found_address d)) past ++ l) (others (found_address d) apart) ∙ append-nil _) in
+          subst (λ l. IsFoundOf l d) (sym other_is) it
+    ]
+
+    found_more : (found : List FoundDocument) (d : FoundDocument) → AreFoundIn past found → found_address d ≡ a → IsFoundOf (map node_of run) d → AreFoundIn (past ++ run) (found ++ d ∷ [])
+    found_more found d were address it = record {
+      listed =
+          ap (map (λ r. column r 6)) (filter-append is_root past run) ∙ map-append (λ r. column r 6) (filter is_root past) (filter is_root run) ∙ ap₂ ◌++◌ were.listed (roots_of a run it.tree in_run it.same)
+          ∙ ap (λ x. map (λ d. Text (found_address d)) found ++ Text x ∷ []) (sym address) ∙ sym (map-append (λ d. Text (found_address d)) found (d ∷ []));
+      each = all_append (λ d. IsFoundOf (nodes_under (found_address d) (past ++ run)) d) found (d ∷ []) (all_weaker _ _ others_stay found were.each) (own_found d address it, tt);
+    }
+      where
+        own_found : (d : FoundDocument) → found_address d ≡ a → IsFoundOf (map node_of run) d → IsFoundOf (nodes_under (found_address d) (past ++ run)) d
+        own_found d address it =
+            let own_is : nodes_under a (past ++ run) ≡ map node_of run = ap (map node_of) (filter-append (is_under a) past run ∙ ap₂ ◌++◌ before (filter_all (is_under a) run in_run)) in
+            subst (λ l. IsFoundOf l d) (sym (ap (λ x. nodes_under x (past ++ run)) address ∙ own_is)) it
+
     bad_run : ¬ (IsAddress a × IsRun (map node_of run)) → ¬ AreDocumentRuns (past ++ rest)
     bad_run bad told = elim (told.whole a) [
       | inl none ↦ some_run rest here (sym here_is ∙ none)
       | inr ok ↦ bad (owned_first rest here (all_later HasOwner past rest told.owned), subst IsRun here_is ok)
     ]
 
-pub judged_none : (all : List Row) → AreJudged all all
-judged_none all = record { past = []; is = refl; told = λ sorted. (record { owned = tt; whole = λ b. inl refl }, λ b. inl refl) }
+pub judged_none : (all : List Row) → AreJudged all all []
+judged_none all = record { past = []; is = refl; told = λ sorted. (record { owned = tt; whole = λ b. inl refl }, λ b. inl refl, record { listed = refl; each = tt }) }
 
 rest_rises : (all rest past : List Row) → past ++ rest ≡ all → IsSorted by_place all → IsAscending AtMost rest
 rest_rises all rest past is sorted = rises_later AtMost past rest (subst (IsAscending AtMost) (sym is) (addresses_rise all sorted))
 
-module _ (all rest : List Row) (judged : AreJudged all rest) (a : List ℕ) (first : Row) (here : slice_get rest 0 ≡ Some first) (own : column first 6 ≡ Text a) where
-  pub judged_more : IsAddress a → IsRun (map node_of (take (run_length a rest) rest)) → AreJudged all (drop (run_length a rest) rest)
-  judged_more good is = record {
+module _ (all rest : List Row) (found : List FoundDocument) (judged : AreJudged all rest found) (a : List ℕ) (first : Row) (here : slice_get rest 0 ≡ Some first) (own : column first 6 ≡ Text a) where
+  pub judged_more : (d : FoundDocument) → IsAddress a → found_address d ≡ a → IsFoundOf (map node_of (take (run_length a rest) rest)) d → AreJudged all (drop (run_length a rest) rest) (found ++ d ∷ [])
+  judged_more d good address is = record {
     past = judged.past ++ take (run_length a rest) rest;
     is = append_assoc judged.past (take (run_length a rest) rest) (drop (run_length a rest) rest) ∙ ap (λ l. judged.past ++ l) (take-append-drop (run_length a rest) rest) ∙ judged.is;
     told = λ sorted.
         let so_far = judged.told sorted in
-        let up = rest_rises all rest judged.past judged.is sorted in
-        (told_more a first own judged.past rest here up so_far.1 so_far.0 good is, cut_more a first own judged.past rest here up so_far.1);
+        let up = rest_rises all rest judged.past judged.is sorted in (
+          told_more a first own judged.past rest here up so_far.1 so_far.0 good (is.tree, is.is_document, is.same),
+          cut_more a first own judged.past rest here up so_far.1,
+          found_more a first own judged.past rest here up so_far.1 found d so_far.2 address is,
+        );
   }
 
   pub judged_bad : ¬ (IsAddress a × IsRun (map node_of (take (run_length a rest) rest))) → IsSorted by_place all → ¬ AreDocumentRuns all
@@ -406,8 +461,11 @@ module _ (all rest : List Row) (judged : AreJudged all rest) (a : List ℕ) (fir
       let up = rest_rises all rest judged.past judged.is sorted in
       bad_run a first own judged.past rest here up so_far.1 bad (subst AreDocumentRuns (sym judged.is) told)
 
-pub judged_all : (all rest : List Row) → AreJudged all rest → rest ≡ [] → IsSorted by_place all → AreDocumentRuns all
-judged_all all rest judged none sorted = subst AreDocumentRuns (sym (append-nil judged.past) ∙ ap (λ l. judged.past ++ l) (sym none) ∙ judged.is) (judged.told sorted).0
+pub judged_all : (all rest : List Row) (found : List FoundDocument) → AreJudged all rest found → rest ≡ [] → IsSorted by_place all → AreDocumentRuns all × AreFoundIn all found
+judged_all all rest found judged none sorted =
+    let e : judged.past ≡ all = sym (append-nil judged.past) ∙ ap (λ l. judged.past ++ l) (sym none) ∙ judged.is in
+    let told = judged.told sorted in
+    (subst AreDocumentRuns e told.0, subst (λ l. AreFoundIn l found) e told.2)
 
 -- # The table
 
@@ -429,6 +487,28 @@ module _ (table rows : List Row) (are : AreNodes table rows) where
     | inl none ↦ inl (none_too a none)
     | inr is ↦ inr (record { tree = is.0; is_document = is.1; same = subst (IsPermutation (rows_at a table)) is.2 (moved a) })
   ]
+
+  -- the documents that were found are those of the table
+  rises_shown : (l : List Row) → IsAscending AtMost l → IsAscending (λ x y. is_gt (by_first x y) ≡ false) (map (λ r. column r 6 ∷ []) l)
+  rises_shown [] up = tt
+  rises_shown (r ∷ rs) up = (all_map (λ y. is_gt (by_first (column r 6 ∷ []) y) ≡ false) (λ r. column r 6 ∷ []) rs up.0, rises_shown rs up.1)
+
+  roots_picked : (found : List FoundDocument) → AreFoundIn rows found → IsPicked is_first (λ r. column r 1 ∷ []) table (map alone (map found_address found))
+  roots_picked found are_found =
+      let shown : map (λ r. column r 6 ∷ []) (filter is_root rows) ≡ map alone (map found_address found) =
+      sym (map-map (λ v. v ∷ []) (λ r. column r 6) (filter is_root rows)) ∙ ap (map (λ v. v ∷ [])) are_found.listed ∙ map-map (λ v. v ∷ []) (λ d. Text (found_address d)) found ∙ sym (map-map alone found_address found) in
+      let first : map (λ r. column r 6 ∷ []) (filter is_root (map addressed_node table)) ≡ map (λ r. column r 1 ∷ []) (filter is_first table) =
+      ap (map (λ r. column r 6 ∷ [])) (filter-map is_root addressed_node table) ∙ map-map (λ r. column r 6 ∷ []) addressed_node (filter is_first table) in
+      record {
+        same = subst₂ IsPermutation first shown (IsPermutation-map (λ r. column r 6 ∷ []) _ _ (IsPermutation-filter is_root _ _ are.same));
+        sorted = subst (IsSorted by_first) shown (sorted_from by_first first_total _ (rises_shown (filter is_root rows) (ascending-filter AtMost is_root rows (addresses_rise rows are.sorted))));
+      }
+
+  pub table_found : AreDocumentRuns rows → (found : List FoundDocument) → AreFoundIn rows found → (map found_address found ≡ keys (documents_in table)) × AllByRecursion (λ d. IsFoundAt (tree_at table (found_address d)) d) found
+  table_found told found are_found = (
+    keys_are table (map found_address found) (table_named told) (table_whole told) (roots_picked found are_found),
+    all_weaker _ _ (λ d it. subst (λ t. IsFoundAt t d) (sym (tree_back it.tree (rows_at (found_address d) table) (subst (IsPermutation (rows_at (found_address d) table)) it.same (moved (found_address d))))) it.kept) found are_found.each,
+  )
 
   -- and back: the nodes of an address stand in the order of their numbers
   numbers_fall_not : (o p : Ordering) → o ≡ Equal → is_gt (ordering_then o p) ≡ false → is_gt p ≡ false

@@ -35,7 +35,7 @@ is_root r = is_eq (value_cmp (column r 0) (Int (pos 0)))
 later : (k : ℕ) → 0 < k → is_eq (value_cmp (Int (pos k)) (Int (pos 0))) ≡ false
 later k h = ap is_eq (value_cmp-Int (pos k) (pos 0)) ∙ grind (arith, ints)
 
-no_roots : (k : ℕ) (nodes : List Node) → 0 < k → filter is_root (map cells (enumerate_from k nodes)) ≡ []
+pub no_roots : (k : ℕ) (nodes : List Node) → 0 < k → filter is_root (map cells (enumerate_from k nodes)) ≡ []
 no_roots k [] h = refl
 no_roots k (n ∷ ns) h = ap (λ b. cond b (cells (k, n) ∷ filter is_root (map cells (enumerate_from (k + 1) ns))) (filter is_root (map cells (enumerate_from (k + 1) ns)))) (later k h) ∙ no_roots (k + 1) ns (omega arith)
 

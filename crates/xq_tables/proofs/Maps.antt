@@ -118,7 +118,7 @@ pub nodes_back : (k : ℕ) (nodes : List Node) → map node_in (map cells (enume
 nodes_back k [] = refl
 nodes_back k (n ∷ ns) = rw (node_back (k, n), nodes_back (k + 1) ns) refl
 
-tree_back : (t : Tree) (rows : List Row) → IsPermutation rows (map cells (placed_rows t)) → tree_of (map node_in (sort_by by_first rows)) ≡ t
+pub tree_back : (t : Tree) (rows : List Row) → IsPermutation rows (map cells (placed_rows t)) → tree_of (map node_in (sort_by by_first rows)) ≡ t
 tree_back t given same = ap (λ l. tree_of (map node_in l)) (sorted_nodes given (rows t) same) ∙ ap tree_of (nodes_back 0 (rows t)) ∙ tree_of-rows t
 
 -- # The map, by its rows

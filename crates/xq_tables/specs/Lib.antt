@@ -3,6 +3,7 @@ pub mod Labels
 pub mod Nodes
 pub mod Documents
 pub mod Outside
+pub mod Found
 pub mod Reads
 pub mod Writes
 pub mod Moves

@@ -11,6 +11,7 @@ ghost use Rattle.sqlite_trees.specs.View.{doubt};
 ghost use Rattle.sqlite_value.specs.Order.{column};
 ghost use Rattle.sqlite_value.specs.declared.value.Value.TheVariants.{Int};
 ghost use Rattle.xq_tables.specs.Documents.{AreApart, AreLabels, HaveInts, IsOldStore, IsReady, IsStore};
+ghost use Rattle.xq_tables.specs.Found.{AreFound};
 ghost use Rattle.xq_tables.specs.Labels.{label_rows, IsStoreSchema};
 ghost use Rattle.xq_tables.specs.Tables.{IsOldSchema, layout_rows};
 ghost use Rattle.xq_tables.specs.private.Adopt.{AreBounded, HasLayout, HoldLabelled, IsEdition, IsPast, IsSelect, ShowsDocuments, ShowsIds, ShowsOthers, ShowsSome};
@@ -18,6 +19,7 @@ ghost use Rattle.xq_tables.specs.Outside.{StaysOutside};
 ghost use Rattle.xq_tables.specs.private.Streams.{GivesRows, Stays};
 
 use crate::faults::OpenFault;
+use crate::findings::{FoundDocument, JudgedRows};
 use crate::judgements::check_runs;
 use crate::refusals::Refusal;
 use sqlite::types::ValueRef;
@@ -142,13 +144,14 @@ pub fn check_ids<S: Alter>(conn: &mut Connection<S>, text: &str) -> Result<u64, 
     check_rising(&mut rows)
 }
 
-/// Judges the nodes that a query gives by address and number, one address after another, and says
-/// how many there are.
+/// Judges the nodes that a query gives by address and number, one address after another. It says how
+/// many there are, and gives the documents, with rows that take no more than so many bytes.
 fn check_documents<S: Alter>(
     alloc: Global,
     conn: &mut Connection<S>,
     text: &str,
-) -> Result<u64, OpenFault>
+    room: usize,
+) -> Result<JudgedRows, OpenFault>
     requires outside { conn.old.in_transaction ≡ false }
     requires plain { IsReady (state S.Store conn.old)
         → IsPlain (understood (state S.Store conn.old).now.schema text.now) }
@@ -159,15 +162,15 @@ fn check_documents<S: Alter>(
         → OnOk result (IsTrue (state S.Store conn.new).is_open) }
     ensures same { IsReady (state S.Store conn.new)
         → (state S.Store conn.new).now ≡ (state S.Store conn.old).now }
-    ensures ok { IsReady (state S.Store conn.new) → IfOk result (ShowsDocuments S.Store
-        text.now conn.old) }
+    ensures ok { IsReady (state S.Store conn.new) → IfOk result (λ judged. ShowsDocuments S.Store
+        text.now conn.old judged.documents.items judged.count) }
     ensures err { IsReady (state S.Store conn.new)
         → IfErr result (λ fault. fault ≡ OpenFault.NotAStore
         → ShowsOthers S.Store text.now conn.old) }
 {
     let _idle = conn.is_autocommit();
     let mut rows = conn.query(text, &[])?;
-    check_runs(alloc, &mut rows)
+    check_runs(alloc, &mut rows, room)
 }
 
 /// Whether a query gives a row.
@@ -239,8 +242,13 @@ fn check_labels<S: Alter>(conn: &mut Connection<S>) -> Result<(), OpenFault>
     Ok(())
 }
 
-/// Judges the nodes: each has a label, and they are those of documents.
-fn check_nodes<S: Alter>(alloc: Global, conn: &mut Connection<S>) -> Result<(), OpenFault>
+/// Judges the nodes: each has a label, and they are those of documents. It gives these, with rows
+/// that take no more than so many bytes.
+fn check_nodes<S: Alter>(
+    alloc: Global,
+    conn: &mut Connection<S>,
+    room: usize,
+) -> Result<Vec<FoundDocument>, OpenFault>
     requires outside { conn.old.in_transaction ≡ false }
     requires tables { IsReady (state S.Store conn.old)
         → IsStoreSchema (state S.Store conn.old).now.schema }
@@ -252,25 +260,34 @@ fn check_nodes<S: Alter>(alloc: Global, conn: &mut Connection<S>) -> Result<(), 
     ensures ok { IsReady (state S.Store conn.new)
         → OnOk result (AreLabels (label_rows (state S.Store conn.old).now)
         → HoldLabelled (state S.Store conn.old).now) }
+    ensures found { IsReady (state S.Store conn.new)
+        → IfOk result (λ found. AreFound (state S.Store conn.old).now found.items) }
     ensures err { IsReady (state S.Store conn.new)
         → IfErr result (λ fault. fault ≡ OpenFault.NotAStore
         → ¬ (IsStore (state S.Store conn.old).now)) }
 {
     let all = check_ids(conn, "SELECT rowid FROM node2 ORDER BY rowid")?;
-    let named = check_documents(
+    let judged = check_documents(
         alloc,
         conn,
         "SELECT pre, size, level, kind, name, value, address FROM node2 INNER JOIN label ON label = id ORDER BY address, pre",
+        room,
     )?;
+    let named = judged.count;
     if named == all {
-        Ok(())
+        Ok(judged.documents)
     } else {
         Err(OpenFault::NotAStore)
     }
 }
 
-/// Judges the tables of edition 2.
-pub fn check_store<S: Alter>(alloc: Global, conn: &mut Connection<S>) -> Result<(), OpenFault>
+/// Judges the tables of edition 2. It gives the documents, with rows that take no more than so many
+/// bytes.
+pub fn check_store<S: Alter>(
+    alloc: Global,
+    conn: &mut Connection<S>,
+    room: usize,
+) -> Result<Vec<FoundDocument>, OpenFault>
     requires outside { conn.old.in_transaction ≡ false }
     requires tables { IsStoreSchema (state S.Store conn.old).now.schema }
     ensures outside { StaysOutside S.Store conn.old conn.new }
@@ -280,13 +297,15 @@ pub fn check_store<S: Alter>(alloc: Global, conn: &mut Connection<S>) -> Result<
         → (state S.Store conn.new).now ≡ (state S.Store conn.old).now }
     ensures ok { IsReady (state S.Store conn.new)
         → OnOk result (IsStore (state S.Store conn.old).now) }
+    ensures found { IsReady (state S.Store conn.new)
+        → IfOk result (λ found. AreFound (state S.Store conn.old).now found.items) }
     ensures err { IsReady (state S.Store conn.new)
         → IfErr result (λ fault. fault ≡ OpenFault.NotAStore
         → ¬ (IsStore (state S.Store conn.old).now)) }
 {
     check_edition(conn, 2)?;
     check_labels(conn)?;
-    check_nodes(alloc, conn)
+    check_nodes(alloc, conn, room)
 }
 
 /// Judges the tables of edition 1.
@@ -310,6 +329,7 @@ pub fn check_old<S: Alter>(alloc: Global, conn: &mut Connection<S>) -> Result<()
         alloc,
         conn,
         "SELECT pre, size, level, kind, name, value, address FROM node ORDER BY address, pre",
+        0,
     )?;
     Ok(())
 }

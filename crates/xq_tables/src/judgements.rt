@@ -8,11 +8,12 @@ ghost use Rattle.sqlite_value.specs.declared.value.Value.TheVariants.{Text};
 ghost use Rattle.xq_trees.specs.Rows.{placed};
 ghost use Rattle.xq_tables.specs.Documents.{IsReady};
 ghost use Rattle.xq_tables.specs.Nodes.{cells};
-ghost use Rattle.xq_tables.specs.private.Adopt.{AreDocumentRuns, AreNoDocuments, HasJudged, IsWhole, ShowsNoDocuments, by_place, is_under as is_under_lem, row_fault as row_fault_lem};
+ghost use Rattle.xq_tables.specs.private.Adopt.{AreDocumentRuns, AreFoundIn, AreNoDocuments, Closes, HasJudged, IsFound, IsWhole, ShowsNoDocuments, by_place, is_under as is_under_lem, row_fault as row_fault_lem};
 ghost use Rattle.xq_tables.specs.private.Columns.{IsReadable, node_of};
 ghost use Rattle.xq_tables.specs.private.Streams.{GivesRows, Stays};
 
 use crate::faults::OpenFault;
+use crate::findings::{FoundDocument, JudgedRows, found_document, kept_bytes};
 use crate::refusals::Refusal;
 use crate::rows::node_row;
 use sqlite::types::ValueRef;
@@ -26,6 +27,16 @@ use xq_trees::{NodeRow, RowTree};
 pub(crate) struct RowRange {
     pub address: Vec<u8>,
     pub nodes: Vec<NodeRow>,
+}
+
+/// What was found in the rows that were judged, and the rows in hand.
+#[derive(Drop)]
+pub(crate) struct Findings {
+    /// The documents, in the order of their addresses.
+    pub documents: Vec<FoundDocument>,
+    pub run: RowRange,
+    /// How many bytes may still be kept of rows.
+    pub room: usize,
 }
 
 /// The address of a row, where it is a text.
@@ -105,13 +116,14 @@ impl RowRange {
         Ok(self)
     }
 
-    /// Judges the rows in hand, if there are any.
-    fn check(self) -> Result<(), OpenFault>
-        ensures ok { OnOk result (IsWhole self) }
+    /// The document of the rows in hand, if there are any, with its rows where they take no more
+    /// than so many bytes.
+    fn document(self, alloc: Global, room: usize) -> Result<Option<FoundDocument>, OpenFault>
+        ensures ok { IfOk result (IsFound self) }
         ensures err { IfErr result (λ fault. fault ≡ OpenFault.NotAStore → ¬ (IsWhole self)) }
     {
         if self.nodes.is_empty() {
-            return Ok(());
+            return Ok(None);
         }
         if !address_ok(&self.address) {
             return Err(OpenFault::NotAStore);
@@ -120,33 +132,106 @@ impl RowRange {
             return Err(OpenFault::NotAStore);
         };
         if document.is_document() {
-            Ok(())
+            let found = found_document(alloc, self.address, &document, room)?;
+            Ok(Some(found))
         } else {
             Err(OpenFault::NotAStore)
         }
     }
+}
 
-    /// The run with one row more. Where that is another address's, the rows in hand are judged, and
-    /// it begins a run.
-    fn with_row(self, alloc: Global, row: &Row) -> Result<RowRange, OpenFault>
-        ensures ok { IfOk result (λ run. (given : List Columns) → HasJudged given self
-            → HasJudged (given ++ row.now ∷ []) run) }
+impl Findings {
+    /// No document, and no row in hand.
+    fn new(alloc: Global, room: usize) -> Findings
+        ensures documents { result.documents.items ≡ [] }
+        ensures nodes { result.run.nodes.items ≡ [] }
+    {
+        Findings {
+            documents: Vec::new(alloc),
+            run: RowRange::new(alloc),
+            room,
+        }
+    }
+
+    /// The findings with the document of the rows in hand, which no row of its address follows.
+    fn closed(self, alloc: Global) -> Result<Findings, OpenFault>
+        ensures ok { IfOk result (λ later. Closes self later.documents.items) }
+        ensures err { IfErr result (λ fault. fault ≡ OpenFault.NotAStore
+            → ¬ (IsWhole self.run)) }
+    {
+        let mut documents = self.documents;
+        let mut room = self.room;
+        if let Some(found) = self.run.document(alloc, room)? {
+            room = room.saturating_sub(kept_bytes(&found.rows));
+            documents.push(found).map_err(Want::from)?;
+        }
+        Ok(Findings {
+            documents,
+            run: RowRange::new(alloc),
+            room,
+        })
+    }
+
+    /// The findings with one row more of the address in hand.
+    fn with_node(self, node: NodeRow) -> Result<Findings, OpenFault>
+        ensures documents { IfOk result (λ later. later.documents.items ≡ self.documents.items) }
+        ensures address { IfOk result (λ later.
+            later.run.address.items ≡ self.run.address.items) }
+        ensures nodes { IfOk result (λ later.
+            later.run.nodes.items ≡ self.run.nodes.items ++ node ∷ []) }
+        ensures err { IfErr result (λ fault. fault ≢ OpenFault.NotAStore) }
+    {
+        let run = self.run.with_node(node)?;
+        Ok(Findings {
+            documents: self.documents,
+            run,
+            room: self.room,
+        })
+    }
+
+    /// The findings with the row alone in hand, whose node this is.
+    fn begun(self, alloc: Global, row: &Row, node: NodeRow) -> Result<Findings, OpenFault>
+        ensures documents { IfOk result (λ later. later.documents.items ≡ self.documents.items) }
+        ensures address { IfOk result (λ later.
+            column row.now 6 ≡ Text later.run.address.items) }
+        ensures nodes { IfOk result (λ later. later.run.nodes.items ≡ node ∷ []) }
+        ensures err { IfErr result (λ fault. fault ≡ OpenFault.NotAStore
+            → (address : List ℕ) → column row.now 6 ≢ Text address) }
+    {
+        let run = RowRange::begun(alloc, row, node)?;
+        Ok(Findings {
+            documents: self.documents,
+            run,
+            room: self.room,
+        })
+    }
+
+    /// The findings with one row more. Where that is another address's, the rows in hand are judged,
+    /// and it begins a run.
+    fn with_row(self, alloc: Global, row: &Row) -> Result<Findings, OpenFault>
+        ensures ok { IfOk result (λ later. (given : List Columns) → HasJudged given self
+            → HasJudged (given ++ row.now ∷ []) later) }
         ensures err { IfErr result (λ fault. fault ≡ OpenFault.NotAStore
             → (given : List Columns) → HasJudged given self
             → AreNoDocuments (given ++ row.now ∷ [])) }
     {
         let node = node_in(row)?;
-        if is_under(row, &self.address) {
+        if is_under(row, &self.run.address) {
             return self.with_node(node);
         }
-        self.check()?;
-        RowRange::begun(alloc, row, node)
+        let closed = self.closed(alloc)?;
+        closed.begun(alloc, row, node)
     }
 }
 
 /// Judges the rows of nodes that an answer gives from here on, in the order of address and number:
-/// one run for each address. It says how many there are; an answer that would not end is refused.
-pub fn check_runs<S: Alter>(alloc: Global, rows: &mut Rows<'_, S>) -> Result<u64, OpenFault>
+/// one run for each address. It says how many there are, and gives the documents that they are of,
+/// with rows that take no more than so many bytes. An answer that would not end is refused.
+pub fn check_runs<S: Alter>(
+    alloc: Global,
+    rows: &mut Rows<'_, S>,
+    room: usize,
+) -> Result<JudgedRows, OpenFault>
     ensures same_reference { rows.new.conn.ghost_name ≡ rows.old.conn.ghost_name }
     ensures mode { rows.old.conn.now.in_transaction ≡ false
         → rows.new.conn.now.in_transaction ≡ false }
@@ -157,23 +242,28 @@ pub fn check_runs<S: Alter>(alloc: Global, rows: &mut Rows<'_, S>) -> Result<u64
     ensures ends_open { HasCleanDisk (state S.Store rows.new.conn.now)
         → OnOk result (IsTrue (state S.Store rows.new.conn.now).is_open) }
     ensures ok { HasCleanDisk (state S.Store rows.new.conn.now)
-        → IfOk result (λ count. GivesRows S.Store rows.old.conn.now rows.new.conn.now
-        (λ given. (IsSorted by_place given → AreDocumentRuns given) × (count ≡ length given))) }
+        → IfOk result (λ judged. GivesRows S.Store rows.old.conn.now rows.new.conn.now
+        (λ given. (IsSorted by_place given
+        → AreDocumentRuns given × AreFoundIn given judged.documents.items)
+        × (judged.count ≡ length given))) }
     ensures err { IsReady (state S.Store rows.new.conn.now)
         → IfErr result (λ fault. fault ≡ OpenFault.NotAStore
         → ShowsNoDocuments S.Store rows.old.conn.now rows.new.conn.now) }
 {
-    let mut run = RowRange::new(alloc);
+    let mut findings = Findings::new(alloc, room);
     for count in 0..u64::MAX {
         let row = match rows.next() {
             Ok(Some(row)) => row,
             Ok(None) => {
-                run.check()?;
-                return Ok(count);
+                let closed = findings.closed(alloc)?;
+                return Ok(JudgedRows {
+                    count,
+                    documents: closed.documents,
+                });
             }
             Err(error) => return Err(OpenFault::Want(Want::from(Refusal(error)))),
         };
-        run = run.with_row(alloc, row)?;
+        findings = findings.with_row(alloc, row)?;
     }
     Err(OpenFault::Want(Want::Store))
 }

@@ -28,6 +28,8 @@ _IN_CHECKOUT = ("clients", "python", "src", "xqs")
 SERVER_VARIABLE = "XQS_SERVER"
 INSTALLED_SERVER = "xq_server"
 """The command of the server that Debian's package installs."""
+MOST_KEPT = 1_048_576
+"""The most megabytes that a server can be asked to keep."""
 
 
 @dataclass(frozen=True)
@@ -102,9 +104,21 @@ def connection_options(bounded: bool = True, file: bool = True) -> argparse.Argu
             "--file", metavar="PATH", help="the file of the documents, which is asked for where "
             "`xqs serve` serves it, or else with the command that is started"
         )
+    group.add_argument(
+        "--kept", metavar="MB", type=_megabytes, help="how much a server that is started keeps of "
+        "what queries read, from 1 to 1,048,576; ./serve takes a sixteenth of the free memory "
+        "otherwise, at least 128"
+    )
     if bounded:
         bounds.add_options(options)
     return options
+
+
+def _megabytes(word: str) -> int:
+    """The number of megabytes that the server takes. ArgumentTypeError for any other word."""
+    if word.isascii() and word.isdecimal() and 1 <= int(word) <= MOST_KEPT:
+        return int(word)
+    raise argparse.ArgumentTypeError(f"not a number from 1 to {MOST_KEPT:,}: {word!r}")
 
 
 def server_of(given: argparse.Namespace) -> Endpoint:
@@ -117,13 +131,20 @@ def server_of(given: argparse.Namespace) -> Endpoint:
     if not where:
         raise ValueError(f"no server is named: give --server, or set {SERVER_VARIABLE}")
     place = endpoint(where)
-    return _with_file(place, given.file) if given.file else place
+    if given.file:
+        place = _with_words(place, "--file", given.file)
+    return with_kept(place, given.kept)
 
 
-def _with_file(place: Endpoint, file: str) -> Endpoint:
+def with_kept(place: Endpoint, megabytes: int | None) -> Endpoint:
+    """The command of a server that keeps so much; ValueError for one that runs already."""
+    return place if megabytes is None else _with_words(place, "--kept", str(megabytes))
+
+
+def _with_words(place: Endpoint, option: str, value: str) -> Endpoint:
     if not isinstance(place, Command):
-        raise ValueError(f"--file goes with a command that is started, not with {place}")
-    return Command((*place.words, "--file", file))
+        raise ValueError(f"{option} goes with a command that is started, not with {place}")
+    return Command((*place.words, option, value))
 
 
 def is_lasting(place: Endpoint) -> bool:

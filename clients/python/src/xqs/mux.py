@@ -12,7 +12,7 @@ from contextlib import AsyncExitStack, asynccontextmanager
 
 from xqs import control, listening
 from xqs.bounds import bounds_of
-from xqs.cli import connection_options, server_of
+from xqs.cli import connection_options, server_of, with_kept
 from xqs.endpoints import Command
 from xqs.listening import notify
 from xqs.metrics_http import MetricsServer
@@ -221,7 +221,7 @@ def command_of(words: Sequence[str], given: argparse.Namespace) -> Sequence[str]
 
     ValueError where that is no command.
     """
-    place = Command(tuple(words)) if words else server_of(given)
+    place = with_kept(Command(tuple(words)), given.kept) if words else server_of(given)
     if not isinstance(place, Command):
         raise ValueError(f"one server is started here, and {place} is no command, {EXAMPLE}")
     return place.words

@@ -22,10 +22,13 @@ use Rattle.xq_atoms.specs.Address.{IsAddress}
 use Rattle.xq_atoms.specs.declared.refusals.Want.TheVariants.{Memory}
 use Rattle.xq_trees.specs.Tree.{Tree, IsDocument}
 use Rattle.xq_trees.specs.Rows.{placed, placed_rows}
+use Rattle.xq_tables.specs.declared.findings.FoundDocument.{FoundDocument}
+use Rattle.xq_tables.specs.declared.judgements.Findings.{Findings}
 use Rattle.xq_tables.specs.declared.judgements.RowRange.{RowRange}
 use Rattle.xq_tables.specs.declared.faults.OpenFault.{OpenFault}
 use Rattle.xq_tables.specs.declared.faults.OpenFault.TheVariants.{Want, NotAStore}
 use Rattle.xq_tables.specs.Documents.{AreApart, HaveInts, HasAddress, rows_at, IsIntact}
+use Rattle.xq_tables.specs.Found.{IsFoundAt, found_address}
 use Rattle.xq_tables.specs.Nodes.{cells}
 use Rattle.xq_tables.specs.private.Columns.{node_of}
 use Rattle.xq_tables.specs.private.Streams.{BeginsWith, GivesRows}
@@ -73,30 +76,64 @@ pub record AreDocumentRuns (rows : List Row) : Type 0 where
   pub whole : (address : List ℕ) → (nodes_under address rows ≡ [])
       ⊎ IsRun (nodes_under address rows)
 
+-- # The documents that are found
+
+-- the row is the first of a document
+abbrev pub is_root : Row → Bool
+is_root r = is_eq (value_cmp (column r 0) (Int (pos 0)))
+
+-- the nodes are those of a document, whose rows are kept, or none of them
+pub record IsFoundOf (nodes : List Row) (d : FoundDocument) : Type 0 where
+  pub tree : Tree
+  pub is_document : IsDocument tree
+  pub same : nodes ≡ map cells (placed_rows tree)
+  pub kept : IsFoundAt tree d
+
+-- the documents that rows are of, in the order of their first rows
+pub record AreFoundIn (rows : List Row) (found : List FoundDocument) : Type 0 where
+  pub listed : map (λ r. column r 6) (filter is_root rows) ≡ map (λ d. Text (found_address d)) found
+  pub each : AllByRecursion (λ d. IsFoundOf (nodes_under (found_address d) rows) d) found
+
 -- # Rows that are judged as they are read
 
 -- no address is on both sides
 abbrev pub IsCut : List Row → List Row → Type 0
 IsCut past rest = (b : List ℕ) → (filter (is_under b) past ≡ []) ⊎ (filter (is_under b) rest ≡ [])
 
--- the rows before the rest were judged
-pub record AreJudged (all rest : List Row) : Type 0 where
+-- the rows before the rest were judged, and these documents found
+pub record AreJudged (all rest : List Row) (found : List FoundDocument) : Type 0 where
   pub past : List Row
   pub is : past ++ rest ≡ all
-  pub told : IsSorted by_place all → AreDocumentRuns past × IsCut past rest
+  pub told : IsSorted by_place all → AreDocumentRuns past × IsCut past rest × AreFoundIn past found
 
 -- of the rows that were given those in hand are of one address, and those before them were judged,
 -- whatever rows follow
-pub record HasJudged (given : List Row) (run : RowRange) : Type 0 where
+pub record HasJudged (given : List Row) (it : Findings) : Type 0 where
   pub here : List Row
-  pub under : AllByRecursion (λ r. is_under run.address.items r ≡ true) here
-  pub read : map cells (map placed run.nodes.items) ≡ map node_of here
-  pub judged : (tail : List Row) → AreJudged (given ++ tail) (here ++ tail)
+  pub under : AllByRecursion (λ r. is_under it.run.address.items r ≡ true) here
+  pub read : map cells (map placed it.run.nodes.items) ≡ map node_of here
+  pub judged : (tail : List Row) → AreJudged (given ++ tail) (here ++ tail) it.documents.items
 
 -- no row is in hand, or they are those of a document under a good address
 abbrev pub IsWhole : RowRange → Type 0
 IsWhole run = (run.nodes.items ≡ [])
     ⊎ (IsAddress run.address.items × IsRun (map cells (map placed run.nodes.items)))
+
+-- one document more, where it is there
+abbrev pub with_found : List FoundDocument → Option FoundDocument → List FoundDocument
+with_found found None = found
+with_found found (Some d) = found ++ d ∷ []
+
+-- no row is in hand, or this is the document that they are of, under its good address
+abbrev pub IsFound : RowRange → Option FoundDocument → Type 0
+IsFound run None = run.nodes.items ≡ []
+IsFound run (Some d) = (found_address d ≡ run.address.items) × IsAddress run.address.items
+    × IsFoundOf (map cells (map placed run.nodes.items)) d
+
+-- the documents with that of the rows in hand, if there are any
+abbrev pub Closes : Findings → List FoundDocument → Type 0
+Closes it documents = (found : Option FoundDocument) × IsFound it.run found
+    × (documents ≡ with_found it.documents.items found)
 
 -- whatever rows follow, they are not those of documents
 abbrev pub AreNoDocuments : List Row → Type 0
@@ -134,11 +171,13 @@ ShowsIds {S} g text old count = (new : Held S) × (rows : List Row)
     × Shown text [] (state g old) (state g new) rows × AreApart rows × HaveInts rows
     × (count ≡ length rows)
 
--- so many rows were read, and they are those of documents
-abbrev pub ShowsDocuments : {S : Type 0} → Ghosts S → List ℕ → Held S → ℕ → Type 0
-ShowsDocuments {S} g text old count = (new : Held S) × (rows : List Row)
+-- so many rows were read, and they are those of documents, which are these
+abbrev pub ShowsDocuments : {S : Type 0} → Ghosts S → List ℕ → Held S → List FoundDocument → ℕ
+    → Type 0
+ShowsDocuments {S} g text old found count = (new : Held S) × (rows : List Row)
     × Shown text [] (state g old) (state g new) rows
-    × (IsSorted by_place rows → AreDocumentRuns rows) × (count ≡ length rows)
+    × (IsSorted by_place rows → AreDocumentRuns rows × AreFoundIn rows found)
+    × (count ≡ length rows)
 
 -- the rows are not those of documents
 abbrev pub ShowsOthers : {S : Type 0} → Ghosts S → List ℕ → Held S → Type 0

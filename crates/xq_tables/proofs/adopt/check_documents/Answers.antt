@@ -6,7 +6,8 @@ use Rattle.xq_tables.specs.Documents.{IsReady}
 use Rattle.xq_tables.specs.private.Streams.{GivesRows}
 use Rattle.std.specs.List.Sorted.{IsSorted}
 use Rattle.xq_tables.specs.declared.faults.OpenFault.TheVariants.{NotAStore}
-use Rattle.xq_tables.specs.private.Adopt.{by_place, AreDocumentRuns, ShowsDocuments, ShowsNoDocuments, ShowsOthers}
+use Rattle.xq_tables.specs.declared.findings.JudgedRows.{JudgedRows}
+use Rattle.xq_tables.specs.private.Adopt.{by_place, AreDocumentRuns, AreFoundIn, ShowsDocuments, ShowsNoDocuments, ShowsOthers}
 use Rattle.xq_tables.proofs.AdoptReads.{each_err}
 use Rattle.xq_tables.proofs.AdoptStreams.{documents_streamed, others_streamed}
 use Rattle.xq_tables.proofs.Selects.{refused_keeps, refused_opens}
@@ -51,9 +52,9 @@ pub returns-clause-ok : goal.returns-clause-ok
 returns-clause-ok g c up =
     let late : IsReady (state g.S.Store c.check_runs.new.rows.conn.now) = search rules in
     let early : HasCleanDisk (state g.S.Store c.in_ok-rows.rows.conn.now) = omega (arith, late.0, c.check_runs.ensures.clean) in
-    IfOk-weaker c.check_runs.result (λ (count : ℕ). GivesRows g.S.Store c.in_ok-rows.rows.conn.now c.check_runs.new.rows.conn.now (λ given. (IsSorted by_place given → AreDocumentRuns given) × (count ≡ length given)))
-    (λ (count : ℕ). ShowsDocuments g.S.Store c.args.text.now c.args.conn.now count)
-    (λ count gives. documents_streamed g.S.Store c.args.conn.now c.in_ok-rows.rows.conn.now c.check_runs.new.rows.conn.now c.args.text.now (c.in_ok-rows.ensures.begun early) (c.requires.plain (omega (arith, early, c.in_ok-rows.ensures.survives.clean), begun_opens g.S.Store c.args.text.now _ c.args.conn.now c.in_ok-rows.rows.conn.now (c.in_ok-rows.ensures.begun early) (c.check_runs.ensures.stays late).0)) count gives) (c.check_runs.ensures.ok late.0)
+    IfOk-weaker c.check_runs.result (λ (it : JudgedRows). GivesRows g.S.Store c.in_ok-rows.rows.conn.now c.check_runs.new.rows.conn.now (λ given. (IsSorted by_place given → AreDocumentRuns given × AreFoundIn given it.documents.items) × (it.count ≡ length given)))
+    (λ (it : JudgedRows). ShowsDocuments g.S.Store c.args.text.now c.args.conn.now it.documents.items it.count)
+    (λ it gives. documents_streamed g.S.Store c.args.conn.now c.in_ok-rows.rows.conn.now c.check_runs.new.rows.conn.now c.args.text.now (c.in_ok-rows.ensures.begun early) (c.requires.plain (omega (arith, early, c.in_ok-rows.ensures.survives.clean), begun_opens g.S.Store c.args.text.now _ c.args.conn.now c.in_ok-rows.rows.conn.now (c.in_ok-rows.ensures.begun early) (c.check_runs.ensures.stays late).0)) it.documents.items it.count gives) (c.check_runs.ensures.ok late.0)
 
 pub returns-clause-err : goal.returns-clause-err
 returns-clause-err g c up =

@@ -58,4 +58,4 @@ returns-clause-ok g c ready =
     let docs = c.in_ok-_nodes.ensures.ok ready in
     old_seen old.now ids.1 docs.1 c.requires.tables (c.in_ok-check_edition.ensures.ok early.0)
     (subst (λ (d : Database). IsPermutation (map (λ r. rowid r ∷ []) (node_rows d)) ids.1) first (reads_old_rowids one (state g.S.Store ids.0) ids.1 of_one ids.2)) ids.3 ids.4
-    (subst (λ (d : Database). AreNodes (shown_rows d) docs.1) second (reads_old_nodes two (state g.S.Store docs.0) docs.1 of_two docs.2)) docs.3
+    (subst (λ (d : Database). AreNodes (shown_rows d) docs.1) second (reads_old_nodes two (state g.S.Store docs.0) docs.1 of_two docs.2)) (λ sorted. (docs.3 sorted).0)

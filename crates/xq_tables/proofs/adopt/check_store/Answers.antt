@@ -1,9 +1,10 @@
-use Rattle.std.proofs.Common.{◌≡◌, ◌∙◌, sym, subst}
+use Rattle.std.proofs.Common.{◌≡◌, ◌∙◌, IfOk, sym, subst}
 use Rattle.std.proofs.lemmas.Result.{err_from_is_err_and}
 use Rattle.sqlite.specs.Effect.{Database}
 use Rattle.sqlite.specs.Held.{state}
 use Rattle.xq_tables.specs.declared.faults.OpenFault.TheVariants.{NotAStore}
 use Rattle.xq_tables.specs.Documents.{AreLabels, IsReady, IsStore}
+use Rattle.xq_tables.specs.Found.{AreFound}
 use Rattle.xq_tables.specs.Labels.{label_rows, IsStoreSchema}
 use Rattle.xq_tables.specs.private.Adopt.{HoldLabelled}
 use Rattle.xq_tables.proofs.AdoptReads.{each_err, on_ok, was_ready}
@@ -42,6 +43,16 @@ returns-clause-ok g c ready =
     let labels = subst (λ (d : Database). AreLabels (label_rows d)) first (c.in_ok-check_labels.ensures.ok later) in
     on_ok (AreLabels (label_rows two.now) → HoldLabelled two.now) (IsStore old.now) c.check_nodes.result
     (λ holds. store_seen old.now c.requires.tables edition labels (subst HoldLabelled second (holds (subst (λ (d : Database). AreLabels (label_rows d)) (sym second) labels)))) (c.check_nodes.ensures.ok ready)
+
+pub returns-clause-found : goal.returns-clause-found
+returns-clause-found g c ready =
+    let old = state g.S.Store c.args.conn.now in
+    let one = state g.S.Store c.check_edition.new.conn in
+    let two = state g.S.Store c.check_labels.new.conn in
+    let later : IsReady two = was_ready g.S.Store c.check_labels.new.conn c.check_nodes.new.conn c.check_nodes.ensures.outside ready in
+    let early : IsReady one = was_ready g.S.Store c.check_edition.new.conn c.check_labels.new.conn c.check_labels.ensures.outside later in
+    let second : two.now ≡ old.now = c.check_labels.ensures.same later ∙ c.check_edition.ensures.same early in
+    subst (λ (d : Database). IfOk c.check_nodes.result (λ found. AreFound d found.items)) second (c.check_nodes.ensures.found ready)
 
 pub returns-clause-err : goal.returns-clause-err
 returns-clause-err g c ready =

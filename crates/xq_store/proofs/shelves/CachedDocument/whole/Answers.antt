@@ -1,17 +1,5 @@
-use Rattle.std.proofs.Common.{rules, sym, subst}
-use Rattle.xq_trees.specs.Rows.{rows}
-use Rattle.xq_store.specs.private.Shelves.{IsFront}
 use Rattle.xq_store.proofs.FrontLaws.{packed_front}
-use Rattle.xq_store.proofs.Parents.{more_kept, none_kept}
 use Rattle.xq_store.proofs.shelves.CachedDocument.whole.Goals as goal
 
 pub returns : goal.returns
-returns c =
-    let t = c.args.document in
-    let front = packed_front t c.into_rows-rows.result c.into_rows-rows.ensures in
-    record {
-      rows = front;
-      parents = more_kept t c.all_of.result c.new-guide.result c.read_on.new.self (subst (IsFront t) (sym c.all_of.ensures) front) c.read_on.ensures (none_kept (rows t) c.new-guide.result c.new-guide.ensures);
-      names = search rules;
-      values = search rules;
-    }
+returns c = c.of_rows.ensures c.args.document (packed_front c.args.document c.into_rows.result c.into_rows.ensures)
