@@ -19,6 +19,12 @@ def refusal(code: str) -> bytes:
     return bytes([Status.REFUSED]) + code.encode()
 
 
+WANTING_STORE = bytes([Status.WANTING]) + b"store"
+"""No server could carry the request out: nothing has changed, and it may be sent again."""
+TOO_SLOW = refusal("xqs:SECONDS")
+TOO_LARGE = refusal("xqs:MEMORY")
+
+
 @dataclasses.dataclass(eq=False, slots=True)
 class Request:
     """A frame on its way: whose it is, its tag as the client gave it, and its kind and body.
