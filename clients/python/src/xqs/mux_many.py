@@ -119,13 +119,19 @@ class ManyServers:
                 if self._has_refused_new(replica, error):
                     continue
                 tries += 1
-                if tries >= len(START_DELAYS) and not self.replicas.holding():
+                if tries >= len(START_DELAYS) and self._is_last_hope(replica):
                     self._give_up()
                     return
                 await asyncio.sleep(self._delay(tries, error))
                 continue
             tries = 0
             await self._until_ended(replica)
+
+    def _is_last_hope(self, replica: Replica) -> bool:
+        """Whether nobody could be served where this server can't be started: others hold no
+        documents, and none has them in its file."""
+        return not self.replicas.holding() and (
+            self.has_file(replica) or not self.replicas.on_file)
 
     def _has_refused_new(self, replica: Replica, error: Exception) -> bool:
         """Notes that a server could not begin with a command that it was given; whether it can go

@@ -166,7 +166,8 @@ class Peer:
             self._idle.set()
 
     def _write(self, message: bytes) -> None:
-        if not self.gone:
+        # (asyncio says so on standard error where a client that has gone is written to again)
+        if not self.gone and not self._writer.is_closing():
             data = protocol.framed(message)
             self._written += len(data)
             self._writer.write(data)
