@@ -12,6 +12,7 @@ from unittest import mock
 
 from tests.serving import PATIENCE, RunningMux
 from tests.support import FolderTest, server_command
+from xqs.bounds import half_of_memory
 from xqs.cluster.main import main
 from xqs.cluster.node import Options
 from xqs.starting import KEPT, keeping
@@ -49,11 +50,13 @@ class MuxSharesTest(FolderTest):
             mux.wait_for(f"server {number} holds the documents")
         return mux
 
-    def test_what_is_kept_is_that_of_all_together(self) -> None:
+    def test_all_together_have_what_is_said_or_what_is_so_by_itself(self) -> None:
         for options, on_file, share in (((), True, 42), (("--kept", "90"), True, 30),
                                         (("--kept", "90"), False, 30), (("--kept", "2"), True, 1)):
             mux = self.mux(*options, on_file=on_file)
             self.assertEqual([kept_of(it) for it in mux.server_ids()], [share] * SERVERS)
+            self.assertEqual([memory_of(it) for it in mux.server_ids()],
+                             [half_of_memory() // SERVERS] * SERVERS)
         self.assertLessEqual(SERVERS * 42, KEPT)
 
     def test_a_command_that_names_its_own_is_left_as_it_is(self) -> None:
