@@ -57,8 +57,17 @@ class RunningNode(Running):
             self.wait_until_it_listens()
 
     def wait_until_it_listens(self) -> None:
-        """Waits until it follows the log."""
-        self.wait_for("listens at ", BEGINNING)
+        """Waits until it follows the log; where it does not, tells how far it is."""
+        try:
+            self.wait_for("listens at ", BEGINNING)
+        except AssertionError as error:
+            states = []
+            for _ in range(2):
+                with suppress(XqError, OSError):
+                    states.append(control.ask(self.snapshots, "status")[1])
+                time.sleep(1)
+            raise AssertionError(f"{error}; {os.getloadavg()[0]:.0f} processes want to run; {states}"
+                                 ) from error
 
     async def wait(self) -> None:
         """As `wait_until_it_listens`, for asyncio."""
