@@ -66,8 +66,8 @@ class RunningNode(Running):
                 with suppress(XqError, OSError):
                     states.append(control.ask(self.snapshots, "status")[1])
                 time.sleep(1)
-            raise AssertionError(f"{error}; {os.getloadavg()[0]:.0f} processes want to run; {states}"
-                                 ) from error
+            load = f"the load is {os.getloadavg()[0]:.0f}"
+            raise AssertionError(f"{error}; {load}; {states}") from error
 
     async def wait(self) -> None:
         """As `wait_until_it_listens`, for asyncio."""
