@@ -6,8 +6,9 @@
 The machines are network namespaces (clients/python/with_packages/machines.py); the server is that
 of $XQS_SERVER or WORDS. Of each block the paragraph before it says where it is run. What a node
 says in a block has to come as it stands there, `..` for anything. At the end a document that was
-stored at m1 is read at m2 and m3, a broker and then a machine is lost, and all follows again. It
-wants root, rabbitmq-server, python3-aio-pika and openssl; nothing is installed.
+stored at m1 is read at m2 and m3, a machine is parted and joined, a broker is lost for good and
+replaced, and all follows again. It wants root, rabbitmq-server, python3-aio-pika and openssl;
+nothing is installed.
 """
 
 from __future__ import annotations
@@ -116,21 +117,51 @@ def xqs(machines: Machines, name: str, *words: str) -> str:
     return machines.run(name, line).strip()
 
 
-def check_copies(machines: Machines) -> None:
-    """A copy that is not there is told, and made by what the page says."""
+COPIES = "set -a; . /etc/xqs/node; set +a; /opt/xq_server/xqs node --copies || true"
+
+
+def script_with(words: str) -> str:
+    """The one block of the page that has these words."""
     page = (TOP / "docs" / "CLUSTER.md").read_text(encoding="utf-8")
-    [script] = [part for part in page.split("\n\n") if "add_replica" in part]
-    script = re.sub(r"^    ", "", script, flags=re.MULTILINE).replace("rabbit@m4", "rabbit@m2")
-    ask = "set -a; . /etc/xqs/node; set +a; /opt/xq_server/xqs node --copies || true"
-    machines.run("m1", script.replace("add_replica", "delete_replica"))
-    assert "m2: has no copy" in machines.run("m1", ask)
-    machines.run("m1", script)
-    for _ in range(60):
-        if "no" not in (said := machines.run("m1", ask)):
-            print("   m2's copy was deleted, told as missing, and made again")
+    [script] = [part for part in page.split("\n\n")
+                if words in part and part.startswith("    ")]
+    return re.sub(r"^    ", "", script, flags=re.MULTILINE)
+
+
+def until_all_have_copies(machines: Machines) -> None:
+    """Waits until each broker has a copy of the log."""
+    for _ in range(120):
+        if "no" not in (said := machines.run("m1", COPIES)):
             return
         time.sleep(1)
     raise AssertionError(said)
+
+
+def check_copies(machines: Machines) -> None:
+    """A copy that is not there is told, and made by what the page says."""
+    script = script_with("add_replica").replace("rabbit@m4", "rabbit@m2")
+    machines.run("m1", script.replace("add_replica", "delete_replica"))
+    assert "m2: has no copy" in machines.run("m1", COPIES)
+    machines.run("m1", script)
+    until_all_have_copies(machines)
+    print("   m2's copy was deleted, told as missing, and made again")
+
+
+def check_replacement(machines: Machines) -> None:
+    """A broker that is lost with all that it had is replaced by what the page says."""
+    for number in machines.process_ids("m2", "beam.smp"):
+        os.kill(number, signal.SIGKILL)
+    machines.run("m2", "rm -rf /var/lib/rabbitmq/mnesia")
+    machines.run("m1", script_with("forget_cluster_node"))
+    machines.run("m2", "systemctl start rabbitmq-server\n" + script_with("join_cluster"))
+    until_all_have_copies(machines)
+    xqs(machines, "m2", "query", "1")
+    machines.run("m3", "systemctl stop rabbitmq-server")
+    machines.run("m1", "echo '<a>3</a>' > /root/a.xml")
+    xqs(machines, "m1", "store", "a", "/root/a.xml")
+    machines.run("m3", "systemctl start rabbitmq-server")
+    until_all_have_copies(machines)
+    print("   m2's broker was lost for good, and another one took its place and its copy")
 
 
 def check_cluster(machines: Machines) -> None:
@@ -152,6 +183,7 @@ def check_cluster(machines: Machines) -> None:
         assert time.monotonic() < end, "m3 does not read what m1 has stored"
         time.sleep(0.5)
     check_copies(machines)
+    check_replacement(machines)
     refused = machines.run("m1", """
         /usr/bin/python3 - <<'END'
 import asyncio, aio_pika, os

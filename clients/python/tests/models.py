@@ -6,12 +6,14 @@ read or answered before the question was asked.
 """
 
 import random
+import socket
+import struct
 import threading
 import time
 from collections.abc import Callable, Sequence
 from contextlib import suppress
 
-from tests.serving import Connection, store_body
+from tests.serving import ENDLESS, Connection, store_body
 
 DONE, REFUSED, WANTING = 0, 1, 2
 COUNTER = b"counter"
@@ -29,7 +31,7 @@ class Model:
         self._most = [0] * len(self.addresses)
         self._lock = threading.Lock()
         self.faults: list[str] = []
-        self.unknown = self.counted = self.reads = self.stores = self.refused = 0
+        self.unknown = self.counted = self.reads = self.stores = self.refused = self.rude = 0
         self.longest = 0.0
         self.query = ", ".join(
             f'if (doc-available("{it}")) then xs:integer(doc("{it}")/v) else 0'
@@ -150,6 +152,66 @@ class Writer(Worker):
             self._model.refused += 1
         elif reply:
             self._model.fault(f"a store was answered by {reply}")
+
+
+class Rude(Worker):
+    """Connects again and again, and keeps to nothing: no other client may see anything of it."""
+
+    LARGE = b'string-join(for $x in 1 to 2000 return "%s")' % (b"x" * 50)
+    SHORT = 0.3
+    """How long it waits for a socket that takes nothing."""
+
+    def _work(self) -> None:
+        acts = [self._half, self._huge, self._noise, self._unread, self._drip, self._leave]
+        act = self._leave_long if self._chance.random() < 0.005 else self._chance.choice(acts)
+        with suppress(OSError), self._connect() as connection:
+            connection.socket.settimeout(self.SHORT)
+            act(connection)
+        self._model.rude += 1
+
+    def _half(self, connection: Connection) -> None:
+        """Sends a part of a frame, behind whole ones or not."""
+        frame = struct.pack(">IIc", 5 + 40, 1, b"S") + store_body(b"rude", b"document {}")
+        if self._chance.random() < 0.5:
+            connection.send(b"Q", b"1")
+        connection.socket.sendall(frame[:self._chance.randrange(1, len(frame))])
+        time.sleep(self._chance.uniform(0, 0.05))
+
+    def _huge(self, connection: Connection) -> None:
+        """Says that a frame will have gigabytes, or that it has nothing."""
+        length = self._chance.choice([0xFFFFFFFF, 0x7FFFFFFF, 1 << 24, 0, 1, 4])
+        connection.socket.sendall(struct.pack(">I", length) + b"x" * 3000)
+        connection.socket.recv(1000)
+
+    def _noise(self, connection: Connection) -> None:
+        """Sends bytes of chance."""
+        connection.socket.sendall(self._chance.randbytes(self._chance.randrange(1, 5000)))
+        connection.socket.recv(1000)
+
+    def _unread(self, connection: Connection) -> None:
+        """Asks for much, and reads nothing of it."""
+        for _ in range(40):
+            connection.send(b"Q", self.LARGE)
+
+    def _drip(self, connection: Connection) -> None:
+        """Sends a frame byte by byte, and reads its reply so."""
+        for byte in struct.pack(">IIc", 5 + 1, 1, b"Q") + b"1":
+            connection.socket.sendall(bytes([byte]))
+            time.sleep(0.001)
+        for _ in range(10):
+            connection.read(1)
+
+    def _leave(self, connection: Connection) -> None:
+        """Goes before its replies come, once by both sides and once by its own alone."""
+        for number in range(self._chance.randrange(1, 30)):
+            connection.send(b"S", store_body(b"rude/%d" % (number % 3)))
+            connection.send(b"Q", b'count(collection())')
+        if self._chance.random() < 0.5:
+            connection.socket.shutdown(socket.SHUT_WR)
+
+    def _leave_long(self, connection: Connection) -> None:
+        """Goes while a server is at its query, which takes for ever."""
+        connection.send(b"Q", ENDLESS)
 
 
 class Reader(Worker):

@@ -1,8 +1,10 @@
 """Nodes over a log in memory, with the faults of an engine planted: what clients see of them."""
 
 import asyncio
+import os
 import random
 import shutil
+import signal
 from collections import Counter
 from contextlib import suppress
 from pathlib import Path
@@ -16,6 +18,8 @@ from xqs.cluster.main import _actions
 from xqs.errors import Refused, Unknown, Wanting, XqError
 
 ENDLESS = "every $x in 1 to 1000000, $y in 1 to 1000000 satisfies $x > 0"
+BUSY = "count(for $x in 1 to 3000, $y in 1 to 1000 return $x)"
+"""A query that takes a while and ends."""
 
 
 def value(number: int) -> str:
@@ -68,6 +72,66 @@ class Frames(NodesTest):
         for number in range(30):
             await writer.store("c", value(number))
             self.assertEqual(await reader.query('string(doc("c"))'), [str(number)])
+
+
+class Reading(NodesTest):
+    """Which server a read goes to, and what it sees there."""
+
+    @staticmethod
+    def at(node: LocalNode, text: str) -> Follower:
+        """The server that is at a query with this text."""
+        [found] = [it for it in node.node.followers
+                   if any(text.encode() in asked.payload for asked in it.backend.in_flight)]
+        return found
+
+    async def test_reads_sent_ahead_do_not_go_back_where_a_server_ends(self) -> None:
+        node = await self.begun("a", servers=3)
+        ahead, writer = await self.client(node), await self.client(node)
+        await writer.store("c", value(1))
+        number = 'xs:integer(string(doc("c")))'
+        with mock.patch("xqs.mux_backend.BLAMELESS", 60.0):
+            slow = asyncio.create_task(ahead.query(f"{BUSY} - 3000000 + {number}"))
+            await asyncio.sleep(0.05)
+            fast = asyncio.create_task(ahead.query(number))
+            await asyncio.sleep(0.25)
+            await writer.store("c", value(2))
+            self.at(node, BUSY).backend.kill()
+            first, second = await slow, await fast
+        self.assertLessEqual(first, second)
+
+    async def test_no_client_has_all_servers_while_others_are_connected(self) -> None:
+        node = await self.begun("a", servers=2)
+        greedy, other = await node.connect(), await self.client(node)
+        held = [asyncio.create_task(greedy.query(ENDLESS)) for _ in range(2)]
+        await asyncio.sleep(0.2)
+        async with asyncio.timeout(10):
+            for number in range(5):
+                self.assertEqual(await other.query(str(number)), [number])
+        for task in held:
+            task.cancel()
+        await greedy.close()
+
+    async def test_a_write_behind_a_read_of_its_client_is_not_seen_by_it(self) -> None:
+        node = await self.begun("a", servers=2)
+        ahead = await self.client(node)
+        await ahead.store("c", value(1))
+        with mock.patch("xqs.mux_backend.BLAMELESS", 60.0):
+            read = asyncio.create_task(
+                ahead.query(f'{BUSY} - 3000000 + xs:integer(string(doc("c")))'))
+            await asyncio.sleep(0.05)
+            stored = asyncio.create_task(ahead.store("c", value(2)))
+            await asyncio.sleep(0.2)
+            self.at(node, BUSY).backend.kill()
+            self.assertEqual((await read, await stored), ([1], True))
+
+    async def test_a_stopped_server_is_started_again(self) -> None:
+        node = await self.begun("a")
+        client = await self.client(node)
+        await client.store("c", value(1))
+        os.killpg(node.node.followers[0].backend.process.pid, signal.SIGSTOP)
+        async with asyncio.timeout(20):
+            self.assertEqual(await client.query('string(doc("c"))'), ["1"])
+        self.assertTrue(node.has_said("its process was stopped"))
 
 
 class Losses(NodesTest):

@@ -199,7 +199,8 @@ class UpgradeTest(MuxTest):
         self.assertEqual(client.ask(b"S", store_body(b"a")), (DONE, b"stored"))
         done = self.upgrade(mux, Path("/bin/false"))
         self.assertEqual(done.returncode, 1)
-        self.assertIn("the server ended as it started", done.stderr)
+        self.assertIn("the program is not taken over, and the one before goes on: server 2: the "
+                      "server ended as it started", done.stderr)
         other = run_xqs("mux", "--upgrade", mux.place, "--", *server_command(), "--file", "other")
         self.assertEqual(other.returncode, 1)
         self.assertIn("the documents are in", other.stderr)

@@ -12,7 +12,7 @@ from contextlib import suppress
 from pathlib import Path
 
 from tests import test_mux
-from tests.models import Model, Reader, Worker, Writer
+from tests.models import Model, Reader, Rude, Worker, Writer
 from tests.serving import ENDLESS, PATIENCE, Connection, RunningMux, store_body
 from tests.support import FolderTest, server_command
 
@@ -80,7 +80,8 @@ class EndTest(test_mux.EndTest):
 
 
 class TrialTest(ServersTest):
-    """Writers and readers beside servers that are killed and stopped by chance."""
+    """Writers and readers beside servers that are killed and stopped by chance, and beside clients
+    without manners."""
 
     def trial(self, on_file: bool, seconds: float) -> None:
         """Runs the trial; fails with what a client saw that can't be."""
@@ -90,6 +91,7 @@ class TrialTest(ServersTest):
         workers: list[Worker] = [
             Writer(model, mux.connect, until, number) for number in range(1, 4)]
         workers += [Reader(model, mux.connect, until, 100 + number) for number in range(4)]
+        workers += [Rude(model, mux.connect, until, 200 + number) for number in range(2)]
         faults = 0
         while time.monotonic() < until and not model.faults:
             time.sleep(chance.uniform(0.2, 1.5))
@@ -100,8 +102,9 @@ class TrialTest(ServersTest):
         self.check(mux, model)
         print(f"{seconds:g} s, {'file' if on_file else 'memory'}: {faults} faults, {model.stores} "
               f"stores, {model.counted} counts, {model.unknown} unknown, {model.refused} refused, "
-              f"{model.reads} reads, longest {model.longest:.2f} s", file=sys.stderr)
-        self.assertGreater(faults, 2)
+              f"{model.reads} reads, longest {model.longest:.2f} s, {model.rude} rude clients",
+              file=sys.stderr)
+        self.assertGreater(min(faults, model.rude), 2)
         self.assertGreater(min(model.stores, model.reads, model.counted), 20)
 
     def check(self, mux: RunningMux, model: Model) -> None:

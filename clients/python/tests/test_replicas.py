@@ -13,12 +13,12 @@ from typing import Any, TypeVar
 from unittest import mock
 
 from xqs import replica as replica_module
-from xqs.mux_backend import Own
+from xqs.mux_backend import Own, ServerEnded
 from xqs.mux_clients import Settings
 from xqs.mux_many import ManyServers
 from xqs.mux_peer import Peer, Request
 from xqs.protocol import Splitter
-from xqs.replica import State, address_of
+from xqs.replica import Replica, State, address_of
 
 DONE, REFUSED, WANTING = 0, 1, 2
 ROUNDS = int(os.environ.get("XQS_ROUNDS", "12"))
@@ -336,6 +336,37 @@ class ReplicasTest(unittest.TestCase):
         self.assertIn(last, replicas.holding())
         self.assertIs(replicas.first, last)
         await servers.abandon()
+
+    async def fail_to_fill(self) -> None:
+        """Has a server in memory fail to begin more often than any may, while the file is opened
+        again; then both go on."""
+        said: list[str] = []
+        servers = ManyServers(["s", "--file", "x"], Settings(servers=2), said.append)
+        await servers.start()
+        await self.settle(servers)
+        first, other = servers.replicas.all
+        real, is_open, tries = servers._bring_up, asyncio.Event(), collections.Counter[str]()
+
+        async def planted(it: Replica) -> None:
+            tries[it.name] += 1
+            if it is first:
+                await is_open.wait()
+            elif not is_open.is_set():
+                raise ServerEnded("planted")
+            await real(it)
+
+        with mock.patch.object(servers, "_bring_up", planted):
+            for it in (first, other):
+                it.backend.kill()
+            while tries[other.name] < 300 and not servers.failed.is_set():
+                await asyncio.sleep(0)
+            self.assertFalse(servers.failed.is_set(), said)
+            is_open.set()
+            await self.settle(servers)
+        await servers.abandon()
+
+    def test_who_has_no_file_gives_up_for_nobody(self) -> None:
+        self.run_played(random.Random(1), 0.0, self.fail_to_fill())
 
     def test_the_last_one_in_memory_does_not_leave(self) -> None:
         self.run_played(random.Random(1), 0.0, self.leave_alone())

@@ -57,8 +57,17 @@ class RunningNode(Running):
             self.wait_until_it_listens()
 
     def wait_until_it_listens(self) -> None:
-        """Waits until it follows the log."""
-        self.wait_for("listens at ", BEGINNING)
+        """Waits until it follows the log; where it does not, tells how far it is."""
+        try:
+            self.wait_for("listens at ", BEGINNING)
+        except AssertionError as error:
+            states = []
+            for _ in range(2):
+                with suppress(XqError, OSError):
+                    states.append(control.ask(self.snapshots, "status")[1])
+                time.sleep(1)
+            load = f"the load is {os.getloadavg()[0]:.0f}"
+            raise AssertionError(f"{error}; {load}; {states}") from error
 
     async def wait(self) -> None:
         """As `wait_until_it_listens`, for asyncio."""
@@ -189,12 +198,13 @@ class Writer:
 
 
 class Watcher:
-    """A client of a node that reads the shared document again and again, each time once the read
-    before it was answered: no read may see less than one before it, over all lives of the node."""
+    """A client of a node that reads the shared document again and again, sometimes several times
+    ahead: no read may see less than one before it, over all lives of the node."""
 
     def __init__(self, node: RunningNode) -> None:
         self.faults: list[str] = []
         self.count = 0
+        self._chance = random.Random(f"watcher {node.name}")
         self._node = node
         self._last = 0
 
@@ -209,13 +219,16 @@ class Watcher:
             await asyncio.sleep(0.1)
 
     async def _step(self, client: AsyncClient) -> None:
-        text = await client.query_text(
-            f'if (doc-available("{SHARED}")) then string(doc("{SHARED}")/n) else "0"')
-        value_now = number_of(text.encode())
-        self.count += 1
-        if value_now < self._last:
-            self.faults.append(f"{self._node.name}: {value_now} was read after {self._last}")
-        self._last = max(self._last, value_now)
+        query = f'if (doc-available("{SHARED}")) then string(doc("{SHARED}")/n) else "0"'
+        asked = [client.query_text(query) for _ in range(self._chance.randrange(1, 4))]
+        for text in await asyncio.gather(*asked, return_exceptions=True):
+            if isinstance(text, BaseException):
+                raise text
+            value_now = number_of(text.encode())
+            self.count += 1
+            if value_now < self._last:
+                self.faults.append(f"{self._node.name}: {value_now} was read after {self._last}")
+            self._last = max(self._last, value_now)
 
 
 async def follows_again(node: RunningNode, since: float, seconds: float) -> float | None:

@@ -10,17 +10,13 @@ from xqs.errors import XqError
 from xqs.metrics import Metrics, Report, ServerReport, holds_in
 from xqs.mux_backend import Backend, StartFailed
 from xqs.mux_clients import Clients, Settings
-from xqs.mux_peer import Request, refusal
+from xqs.mux_peer import TOO_LARGE, TOO_SLOW, WANTING_STORE, Request
 from xqs.protocol import Kind, Status
 from xqs.replica import address_of
+from xqs.starting import START_DELAYS, keeping
 from xqs.starting import is_on_file as is_on_file
 from xqs.watching import ended_by_memory, resident
 
-WANTING_STORE = bytes([Status.WANTING]) + b"store"
-TOO_SLOW = refusal("xqs:SECONDS")
-TOO_LARGE = refusal("xqs:MEMORY")
-START_DELAYS = (0.0, 0.1, 0.5, 1.0, 2.0)
-"""Seconds before each try to start the server again; after the last the multiplexer gives up."""
 VAIN_STARTS = 4
 """So many servers in turn may end before a client has sent them anything."""
 LOOK_AGAIN = 1.0
@@ -71,7 +67,8 @@ class Multiplexer:
 
     async def _begin_backend(self) -> None:
         self._backend = await Backend.start(
-            self._command, self._on_reply, self._settings.seconds, self._settings.memory)
+            keeping(self._command, self._settings.kept, 1), self._on_reply, self._settings.seconds,
+            self._settings.memory)
 
     async def _pass_on(self, request: Request) -> None:
         """Sends a request to the server in its turn: those who wait stand in one line."""

@@ -27,6 +27,7 @@ from xqs.mux_control import (
     own_actions,
 )
 from xqs.mux_many import ManyServers
+from xqs.starting import KEPT, MOST_KEPT
 from xqs.waiting import first_set
 
 USAGE = "xqs mux [OPTIONS] unix:PATH|tcp:PORT [-- COMMAND [WORDS]]"
@@ -76,6 +77,7 @@ def add_servers(parser: argparse.ArgumentParser) -> None:
            help="servers that hold the same documents: reads run side by side, and one that ends "
            "is replaced while the others answer (%(default)s; the processors less one, at most "
            f"{MOST_SERVERS})")
+    add_kept(option)
     option("--line", type=positive, metavar="N", default=DEFAULTS.line,
            help="stores and drops that wait for the server with the file (%(default)s)")
     option("--line-seconds", type=duration, metavar="N", default=DEFAULTS.line_seconds,
@@ -83,6 +85,21 @@ def add_servers(parser: argparse.ArgumentParser) -> None:
     option("--compare", type=natural, metavar="N", default=DEFAULTS.compare,
            help="one of so many reads is asked of all servers, and where they differ nothing is "
            "stored any more (%(default)s; 0: none)")
+
+
+def add_kept(option: Callable[..., argparse.Action]) -> None:
+    """Adds the option of what all servers keep of what they have read."""
+    option("--kept", type=megabytes, metavar="MB", default=KEPT,
+           help="megabytes that all servers together keep of what queries have read, for the next "
+           "ones, in equal shares (%(default)s; 0: what each keeps by itself)")
+
+
+def megabytes(text: str) -> int:
+    """A number of megabytes that servers can keep, or 0, for argparse."""
+    number = int(text)
+    if not 0 <= number <= MOST_KEPT:
+        raise ValueError
+    return number
 
 
 def default_servers() -> int:
@@ -128,7 +145,8 @@ def settings_of(arguments: argparse.Namespace) -> Settings:
     return dataclasses.replace(
         client_settings_of(arguments), window=arguments.window, frames=arguments.frames,
         seconds=bounds.seconds, memory=bounds.memory, servers=arguments.servers,
-        line=arguments.line, line_seconds=arguments.line_seconds, compare=arguments.compare)
+        kept=arguments.kept, line=arguments.line, line_seconds=arguments.line_seconds,
+        compare=arguments.compare)
 
 
 def client_settings_of(arguments: argparse.Namespace) -> Settings:

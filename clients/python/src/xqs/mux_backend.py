@@ -109,22 +109,16 @@ class Backend:
         if not answered.is_set():
             raise StartFailed(ended_at_start(command, self.status()))
 
-    async def ask(self, payload: bytes) -> bytes:
-        """The status and text of the reply to a request of this program. Raises ServerEnded."""
-        request = Own(None, 0, payload)
-        if self.ended.is_set():
-            raise ServerEnded("the server has ended")
-        await self.send(request)
-        return await request.done
-
     async def send(self, request: Request) -> None:
         """Sends a request, and waits until the pipe has taken it or the server has ended."""
         self.put(request)
+        await self.drained()
+
+    async def drained(self) -> None:
+        """Waits until the pipe has taken what was sent, or most of it, or the server has ended."""
         assert self.process.stdin is not None
-        try:
+        with contextlib.suppress(OSError):
             await self.process.stdin.drain()
-        except OSError:
-            pass
 
     def put(self, request: Request) -> None:
         """Sends a request without a wait: what the pipe doesn't take stands in memory."""
@@ -194,6 +188,11 @@ class Backend:
         """For how many seconds the server has been at the first request in flight."""
         return time.monotonic() - self._front_since
 
+    def is_blameless(self) -> bool:
+        """Whether the first request in flight was so short under way that it hardly made the server
+        end."""
+        return self.worked() <= BLAMELESS
+
     def leave_for_nobody(self, patience: float = BLAMELESS) -> bool:
         """Ends a server that has been for so many seconds at a query whose client has gone; whether
         it was."""
@@ -209,7 +208,7 @@ class Backend:
     def is_worth_a_repetition(self, front: Request) -> bool:
         """Whether the first request in flight, of a server that has ended, is to be sent to the
         next one: a query, sent for the first time, that hardly made the server end."""
-        if front.changes() or front.repeated or self.overdue or self.worked() > BLAMELESS:
+        if front.changes() or front.repeated or self.overdue or not self.is_blameless():
             return False
         front.repeated = True
         return True

@@ -10,6 +10,7 @@ from xqs.bounds import SECONDS, half_of_memory
 from xqs.metrics import Metrics
 from xqs.mux_peer import Peer, Request, refusal
 from xqs.protocol import Kind
+from xqs.starting import KEPT
 
 READ_ONLY = refusal("xqs:READONLY")
 
@@ -26,9 +27,10 @@ class Settings:
     that still works on one request is ended (None: never), and `memory` is how many bytes all
     servers may have (None: any). With `read_only` nothing can be stored or dropped.
 
-    `servers` hold the same documents. While the first one is started again `line` stores and drops
-    may wait for it, each for `line_seconds`. One in `compare` reads is asked of all servers (0:
-    none). A request that takes `slow` seconds is told.
+    `servers` hold the same documents, and keep `kept` megabytes of what queries have read, all
+    together (0: what each keeps by itself). While the first one is started again `line` stores and
+    drops may wait for it, each for `line_seconds`. One in `compare` reads is asked of all servers
+    (0: none). A request that takes `slow` seconds is told.
     """
 
     clients: int = 200
@@ -42,6 +44,7 @@ class Settings:
     memory: int | None = dataclasses.field(default_factory=half_of_memory)
     read_only: bool = False
     servers: int = 1
+    kept: int = KEPT
     line: int = 1_000
     line_seconds: float = 60.0
     compare: int = 10_000

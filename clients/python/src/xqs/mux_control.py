@@ -15,7 +15,7 @@ from xqs.in_use import file_of
 from xqs.metrics import Metrics, Report, prometheus, status_text
 from xqs.protocol import address_bytes
 from xqs.served import Identity, place_named
-from xqs.upgrading import absolute
+from xqs.upgrading import NotUpgraded, absolute
 
 AT_ONCE = "now"
 """The argument by which a multiplexer ends without answering what it was asked before."""
@@ -85,10 +85,15 @@ def own_actions(command: Sequence[str], asked: asyncio.Event,
 
 
 def ask_upgrade(place: str, command: Sequence[str]) -> int:
-    """Has the multiplexer at a place run another command; gives the exit status."""
+    """Has the multiplexer at a place run another command; gives the exit status. NotUpgraded,
+    NotRunning."""
     words = absolute(command, Path.cwd())
-    for line in control.ask(place, f"upgrade {json.dumps(words)}", None):
-        print(f"xqs mux: {line}", file=sys.stderr, flush=True)
+    try:
+        for line in control.ask(place, f"upgrade {json.dumps(words)}", None):
+            print(f"xqs mux: {line}", file=sys.stderr, flush=True)
+    except control.Refused as error:
+        raise NotUpgraded(f"the program is not taken over, and the one before goes on: {error}"
+                          ) from error
     print("xqs mux: the program is taken over", file=sys.stderr)
     return 0
 

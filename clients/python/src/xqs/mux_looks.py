@@ -10,9 +10,10 @@ from xqs.mux_backend import ServerEnded
 from xqs.mux_clients import Settings
 from xqs.protocol import Kind
 from xqs.replica import HOLDING, Replica, State
-from xqs.replicas import NO_ROOM, STOPPED, WANTING_STORE
+from xqs.mux_peer import WANTING_STORE
+from xqs.replicas import NO_ROOM, STOPPED
 from xqs.waiting import cancelled
-from xqs.watching import is_large, is_stopped, resident
+from xqs.watching import Stopped, is_large, resident
 
 if TYPE_CHECKING:
     from xqs.mux_many import ManyServers
@@ -37,6 +38,7 @@ class Looks:
         self._servers, self._settings = servers, settings
         self._replicas = servers.replicas
         self._looked: dict[Replica, float] = {}
+        self._stopped = Stopped()
         self._tasks: set[asyncio.Task[None]] = set()
         self._leaves: asyncio.Task[bool] | None = None
 
@@ -62,12 +64,11 @@ class Looks:
 
     async def watch(self) -> None:
         """Looks at the servers and the lines."""
-        stopped: set[Replica] = set()
         while True:
             await asyncio.sleep(LOOK)
             self._look_at_memory()
             self._end_for_nobody()
-            stopped = self._end_stopped(stopped)
+            self._end_stopped()
             self._refuse_late()
             self._replace_due()
 
@@ -87,15 +88,12 @@ class Looks:
                 replica.left = front
                 replica.why = "the client of its query has gone"
 
-    def _end_stopped(self, before: set[Replica]) -> set[Replica]:
-        """Ends servers that were stopped as a process, where documents stay; those that are seen
-        so for the first time have until the next look."""
-        seen = {it for it in self._replicas.all if it.runs and is_stopped(it.backend.process.pid)}
-        for replica in seen & before:
+    def _end_stopped(self) -> None:
+        """Ends servers that were stopped as a process, where documents stay."""
+        for replica in self._stopped.look(self._replicas.all):
             holds = replica.state in HOLDING and not self._servers.has_file(replica)
             if not holds or self._replicas.holding(replica):
                 replica.kill("its process was stopped")
-        return seen
 
     def _refuse_late(self) -> None:
         if self._replicas.differs:

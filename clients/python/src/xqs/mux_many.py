@@ -18,16 +18,14 @@ from xqs.mux_looks import Looks
 from xqs.mux_peer import Request
 from xqs.protocol import Kind
 from xqs.replica import Replica, State, address_of
-from xqs.replicas import TOO_LARGE, TOO_SLOW, Replicas
-from xqs.starting import in_memory, is_on_file
+from xqs.replicas import Replicas
+from xqs.starting import START_DELAYS, in_memory, is_on_file, keeping
 from xqs.upgrading import upgrade
 from xqs.waiting import cancelled
-from xqs.watching import ended_by_memory
+from xqs.watching import blame
 
-START_DELAYS = (0.0, 0.1, 0.5, 1.0, 2.0)
-"""Seconds before each try to start a server; after the last one it is given up where no other is
-left, and else tried again and again."""
 LONGEST_DELAY = 60.0
+"""Seconds between two tries to start a server, once it has failed often while others are left."""
 LOOK = 0.05
 """Seconds between two looks whether a server is idle, or back."""
 LONGEST_START = 120.0
@@ -99,9 +97,11 @@ class ManyServers:
         return self.replicas.on_file and replica is self.replicas.first
 
     async def _begin(self, replica: Replica) -> None:
-        """Starts the process of a server, within its share of the memory. Raises StartFailed."""
+        """Starts the process of a server, within its share of the memory and of what all keep.
+        Raises StartFailed."""
         settings = self._settings
         command = replica.command if self.has_file(replica) else in_memory(replica.command)
+        command = keeping(command, settings.kept, settings.servers)
         memory = settings.memory and settings.memory // settings.servers
         await replica.begin(command, settings.seconds, memory)
 
@@ -119,13 +119,19 @@ class ManyServers:
                 if self._has_refused_new(replica, error):
                     continue
                 tries += 1
-                if tries >= len(START_DELAYS) and not self.replicas.holding():
+                if tries >= len(START_DELAYS) and self._is_last_hope(replica):
                     self._give_up()
                     return
                 await asyncio.sleep(self._delay(tries, error))
                 continue
             tries = 0
             await self._until_ended(replica)
+
+    def _is_last_hope(self, replica: Replica) -> bool:
+        """Whether nobody could be served where this server can't be started: others hold no
+        documents, and none has them in its file."""
+        return not self.replicas.holding() and (
+            self.has_file(replica) or not self.replicas.on_file)
 
     def _has_refused_new(self, replica: Replica, error: Exception) -> bool:
         """Notes that a server could not begin with a command that it was given; whether it can go
@@ -164,7 +170,7 @@ class ManyServers:
             return
         replica.state = State.DOWN
         replica.restarts += 1
-        reply = self._blame(replica)
+        reply = blame(replica)
         self._say_why(replica, why)
         replica.why = replica.why or why
         if replica.runs:
@@ -177,14 +183,6 @@ class ManyServers:
             self.replicas.first = min(holding, key=lambda it: it.waiting)
         self.replicas.pump()
         self.replicas.dispatch()
-
-    def _blame(self, replica: Replica) -> bytes | None:
-        """What the request gets that a server was at, where it made that end."""
-        if replica.backend.overdue:
-            return TOO_SLOW
-        if ended_by_memory(replica.backend, replica.why, replica.resident, replica.memory):
-            return TOO_LARGE
-        return None
 
     def _say_why(self, replica: Replica, why: str) -> None:
         backend = replica.backend
@@ -321,7 +319,7 @@ class ManyServers:
     async def _finish(replica: Replica) -> None:
         """Ends a server in order, or at once where that takes too long."""
         try:
-            await asyncio.wait_for(replica.backend.finish(), LONGEST_END)
+            await asyncio.wait_for(replica.finish(), LONGEST_END)
         except TimeoutError:
             replica.kill("it did not end")
             await replica.backend.ended.wait()

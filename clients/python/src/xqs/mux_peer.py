@@ -19,6 +19,12 @@ def refusal(code: str) -> bytes:
     return bytes([Status.REFUSED]) + code.encode()
 
 
+WANTING_STORE = bytes([Status.WANTING]) + b"store"
+"""No server could carry the request out: nothing has changed, and it may be sent again."""
+TOO_SLOW = refusal("xqs:SECONDS")
+TOO_LARGE = refusal("xqs:MEMORY")
+
+
 @dataclasses.dataclass(eq=False, slots=True)
 class Request:
     """A frame on its way: whose it is, its tag as the client gave it, and its kind and body.
@@ -160,7 +166,8 @@ class Peer:
             self._idle.set()
 
     def _write(self, message: bytes) -> None:
-        if not self.gone:
+        # (asyncio says so on standard error where a client that has gone is written to again)
+        if not self.gone and not self._writer.is_closing():
             data = protocol.framed(message)
             self._written += len(data)
             self._writer.write(data)

@@ -17,6 +17,8 @@ from xqs.protocol import Kind, is_address
 
 HELD = 0.05
 """A server that is at a request for so many seconds is given no read behind it."""
+BETWEEN_LOOKS = 0.01
+"""Seconds between two looks whether a line is empty."""
 IN_PIPE = 8
 """So many requests of a line are sent ahead; the others wait here."""
 
@@ -66,7 +68,7 @@ class Watcher(Protocol):
 class Replica:
     """A server and its line.
 
-    `on_reply` gets each reply to a client's read or write, and to a copy. `reads` counts the reads
+    `on_reply` gets each reply with its request. `reads` counts the reads
     of clients in its line, `fast_reads` those that were fast before, `restarts` how often another
     process took the place of one that ended. `why` says why it is to end, where that is known
     before. It runs `command`, which may be `is_new`: then it is compared with another server before
@@ -106,6 +108,11 @@ class Replica:
         return self._backend
 
     @property
+    def has_begun(self) -> bool:
+        """Whether a process was started."""
+        return self._backend is not None
+
+    @property
     def runs(self) -> bool:
         """Whether its process runs, as far as is known."""
         return self._backend is not None and not self._backend.ended.is_set()
@@ -139,8 +146,7 @@ class Replica:
 
     def _take(self, request: Request, reply: bytes) -> None:
         self._slow -= isinstance(request, Copy) and request.took > HELD
-        if not isinstance(request, Own):
-            self._on_reply(self, request, reply)
+        self._on_reply(self, request, reply)
         self._pump()
 
     def put(self, request: Request) -> None:
@@ -161,7 +167,7 @@ class Replica:
             backend.put(request)
 
     async def ask(self, payload: bytes) -> bytes:
-        """The status and text of the reply to a request of the multiplexer. Raises ServerEnded."""
+        """The status and text of the reply to a request of this program. Raises ServerEnded."""
         return await self.asked(payload).done
 
     def of_this_process(self) -> Callable[[bytes], Awaitable[bytes]]:
@@ -176,16 +182,20 @@ class Replica:
         return ask
 
     def asked(self, payload: bytes) -> Own:
-        """Puts a request of the multiplexer into the line. Raises ServerEnded."""
+        """Puts a request of this program into the line. Raises ServerEnded."""
+        request = Own(None, 0, payload)
+        self.put_own(request)
+        return request
+
+    def put_own(self, request: Own) -> None:
+        """Puts a request of this program at the end of the line. Raises ServerEnded."""
         if not self.runs:
             raise ServerEnded(f"{self.name} has ended")
-        request = Own(None, 0, payload)
         self.put(request)
-        return request
 
     def take_all(self) -> list[Request]:
         """What has no reply of a process that has ended, in its order; nothing is left then. Those
-        that the multiplexer asked itself are told."""
+        that this program asked itself are told."""
         found = [*self.backend.in_flight, *self.line]
         self.backend.in_flight.clear()
         self.line.clear()
@@ -194,6 +204,12 @@ class Replica:
             if isinstance(request, Own):
                 request.fail()
         return found
+
+    async def finish(self) -> None:
+        """Ends the process in order, once it has answered all that stands in its line."""
+        while self.line and self.runs:
+            await asyncio.sleep(BETWEEN_LOOKS)
+        await self.backend.finish()
 
     def kill(self, why: str) -> None:
         """Ends the process at once."""

@@ -9,6 +9,12 @@ from collections.abc import Sequence
 from pathlib import Path
 
 KEEPER = Path(__file__).with_name("keeper.py")
+START_DELAYS = (0.0, 0.1, 0.5, 1.0, 2.0)
+"""Seconds before each try to start a server again; after the last it is given up, unless others
+are left that hold its documents."""
+KEPT, MOST_KEPT = 128, 1 << 20
+"""Megabytes of what queries have read that a server keeps where its command doesn't say it, and the
+most that can be said."""
 ISOLATED = ("-I", "-S")
 """The keeper wants the standard library alone, and starts sooner without the rest."""
 
@@ -42,7 +48,20 @@ def how_ended(status: int | None) -> str:
 
 def is_on_file(command: Sequence[str]) -> bool:
     """Whether the words of a server's command say that its documents live in a file."""
-    return any(word == "--file" or word.startswith("--file=") for word in command)
+    return _names(command, "--file")
+
+
+def keeping(command: Sequence[str], megabytes: int, servers: int) -> list[str]:
+    """The words of a server's command that keeps its equal share of what so many servers keep
+    together (0: what each keeps by itself). A command that names its own is left as it is."""
+    share = max(1, megabytes // servers)
+    if not megabytes or share == KEPT or _names(command, "--kept"):
+        return list(command)
+    return [*command, "--kept", str(share)]
+
+
+def _names(command: Sequence[str], option: str) -> bool:
+    return any(word == option or word.startswith(f"{option}=") for word in command)
 
 
 def in_memory(command: Sequence[str]) -> list[str]:

@@ -2,10 +2,13 @@
 
 import os
 import signal
+from collections.abc import Iterable
 from pathlib import Path
 
 from xqs.mux_backend import Backend
+from xqs.mux_peer import TOO_LARGE, TOO_SLOW
 from xqs.protocol import FRAME_LIMIT
+from xqs.replica import Replica
 
 PROCESSES = Path("/proc")
 DEEPEST = 4
@@ -41,6 +44,19 @@ def is_stopped(keeper: int) -> bool:
     return any(_state(it) == STOPPED for it in below(keeper))
 
 
+class Stopped:
+    """Servers that were stopped as a process, and not for a moment alone."""
+
+    def __init__(self) -> None:
+        self._before: set[Replica] = set()
+
+    def look(self, replicas: Iterable[Replica]) -> set[Replica]:
+        """Those that were so at the look before, too."""
+        seen = {it for it in replicas if it.runs and is_stopped(it.backend.process.pid)}
+        lasting, self._before = seen & self._before, seen
+        return lasting
+
+
 def _state(process: int) -> str:
     try:
         text = (PROCESSES / str(process) / "stat").read_text(errors="replace")
@@ -71,6 +87,15 @@ def _pages(process: int) -> tuple[int, int]:
 def is_large(keeper: int, memory: int | None) -> bool:
     """Whether a server has nearly all of the memory that it may have."""
     return memory is not None and addresses_of(keeper) > memory * NEARLY
+
+
+def blame(replica: Replica) -> bytes | None:
+    """What the request gets that a server was at, where it is known that it made that end."""
+    if replica.backend.overdue:
+        return TOO_SLOW
+    if ended_by_memory(replica.backend, replica.why, replica.resident, replica.memory):
+        return TOO_LARGE
+    return None
 
 
 def ended_by_memory(backend: Backend, why: str, seen: int, memory: int | None) -> bool:

@@ -58,7 +58,7 @@ def ways_back(follower: "Follower") -> Iterator[Coroutine[Any, Any, str]]:
 async def _replaced(follower: "Follower") -> str:
     found = await later_snapshot(follower.given.snapshots, follower.state.offset, follower.fits,
                                  follower.say)
-    follower.backend.kill()
+    follower.replica.kill("there is a later snapshot")
     await follower.backend.ended.wait()
     return f"there is a later snapshot, {found.path}"
 

@@ -18,27 +18,28 @@ from xqs.cluster.limits import within
 from xqs.cluster.log import Away, CannotFollow, Log
 from xqs.cluster.outbox import Outbox
 from xqs.cluster.names import Names
-from xqs.cluster.serving import Asked, ServerEnded, ask, give, with_client
+from xqs.cluster.serving import Entry, with_client
 from xqs.cluster.snapshots import Snapshot
 from xqs.cluster.state import State
 from xqs.cluster.steps import passed
 from xqs.cluster.store_file import StoreFile
 from xqs.errors import Closed, Wanting, XqError
-from xqs.mux_backend import Backend, StartFailed
-from xqs.mux_peer import Request
+from xqs.mux_backend import Backend, Own, ServerEnded, StartFailed
+from xqs.mux_peer import WANTING_STORE, Request
 from xqs.protocol import Status
+from xqs.replica import Replica
+from xqs.replica import State as ServerState
+from xqs.starting import START_DELAYS
 from xqs.waiting import cancelled
+from xqs.watching import blame
 
 if TYPE_CHECKING:
     from xqs.cluster.reads import Reads
 
 AGAIN = 0.2
 """Seconds between two looks whether another server has taken the place of one that ended."""
-START_DELAYS = (0.0, 0.1, 0.5, 1.0, 2.0)
-"""Seconds before each try to start the server again; after the last the follower gives up."""
 VAIN_TRIES = 3
 """So many servers in turn may end at one entry; then it is left to whoever looks at it."""
-
 
 GONE = 5.0
 """Seconds for which a server may be at a query whose client has gone: to fill another one takes
@@ -61,9 +62,11 @@ class Ended(Exception):
 
 @dataclass(frozen=True)
 class Given:
-    """What a follower is given: its name and that of its node, its server's command, the program
-    that this runs, where its documents and snapshots are, and the memory of its server."""
+    """What a follower is given: its number, its name and that of its node, its server's command,
+    the program that this runs, where its documents and snapshots are, and the memory of its
+    server."""
 
+    number: int
     name: str
     node: str
     command: Sequence[str]
@@ -77,8 +80,8 @@ class Follower:
     """A server that carries out all entries of the log in their order, and what it stands at.
 
     Between two messages, and never within one, `between` may be held: the documents are then those
-    of `state`. `reading` has the reads of clients that the server was sent, `waits_since` the time
-    at which the wait for the next message began. While `is_reporting` it reports its sums.
+    of `state`. `replica` is its server, with the line of what that was asked, `waits_since` the
+    time at which the wait for the next message began. While `is_reporting` it reports its sums.
     `retired` is a server that ends because another one is to take its place.
 
     `carried` is the place of the last entry that the server has answered, `line` that of the last
@@ -96,18 +99,17 @@ class Follower:
         self.say = say
         self.state = self._nothing()
         self.between = asyncio.Lock()
-        self.reading: set[Request] = set()
+        self.replica = Replica(given.number, self._on_reply)
         self.halted = ""
         self.may_return, self.tied_at = False, 0
-        self.is_ready = self.is_ended = self.is_done = self.is_reporting = False
+        self.is_ended = self.is_done = self.is_reporting = False
         self.waits_since: float | None = None
-        self.retired: Backend | None = None
+        self.retired: Replica | None = None
         self.carried = self.line = self.promised = 0
         self.skips: set[int] = set()
         self.names: Names | None = None
         self._reported: set[int] = set()
         self._aside: dict[int, str] = {}
-        self._backend: Backend | None = None
         self._feed = Feed(given.name, log, say)
         self._ends: dict[int, int] = {}
 
@@ -119,8 +121,12 @@ class Follower:
     @property
     def backend(self) -> Backend:
         """The server that runs, or has ended, once one was started."""
-        assert self._backend is not None
-        return self._backend
+        return self.replica.backend
+
+    @property
+    def is_ready(self) -> bool:
+        """Whether its server holds the documents of its place."""
+        return self.replica.state is ServerState.READY
 
     async def begin(self) -> None:
         """Starts the server, with the documents of the place at which it begins.
@@ -131,11 +137,11 @@ class Follower:
         state = await asyncio.to_thread(file.begin) if file else None
         self.promised = 0
         snapshot = None if state else await self._newest()
-        self._backend = await self.start_server()
+        self.replica = await self.start_server()
         try:
             if snapshot:
                 found = snapshot
-                count = await with_client(self.backend, lambda it: snapshots.restore(it, found))
+                count = await with_client(self.replica, lambda it: snapshots.restore(it, found))
                 self.say(f"{self.name} begins from {found.path}: {count} documents of "
                          f"{found.state}")
             self.state = self._checked(
@@ -145,17 +151,18 @@ class Follower:
             raise
         self.agreement = Agreement(self.given.node, self.given.program, self.state.reports)
         self.carried = self.line = self.state.place
-        self.is_ready = True
-        self._reads.changed()
+        self.go_on_with(self.replica)
 
-    async def start_server(self) -> Backend:
+    async def start_server(self) -> Replica:
         """Another process of this server's command. Raises StartFailed."""
-        return await Backend.start(self.given.command, self._on_reply, None, self.given.memory)
+        replica = Replica(self.given.number, self._on_reply)
+        await replica.begin(self.given.command, None, self.given.memory)
+        return replica
 
-    def go_on_with(self, backend: Backend) -> None:
-        """Puts a process with the same documents into the place of the one that was there."""
-        self._backend = backend
-        self.is_ready = True
+    def go_on_with(self, replica: Replica) -> None:
+        """Has a process with the documents of this place answer from now on."""
+        self.replica = replica
+        replica.state = ServerState.READY
         self._reads.changed()
 
     def _nothing(self) -> State:
@@ -200,7 +207,7 @@ class Follower:
                 raise
             except GoBack as error:
                 self.say(f"{self.name}: {error}")
-                self.backend.kill()
+                self.replica.kill("its documents are of a place that all nodes skip")
                 await self.backend.ended.wait()
             except ServerEnded:
                 pass
@@ -218,9 +225,9 @@ class Follower:
         what that carried out meanwhile would be carried out again.
         """
         while True:
-            backend = self.backend
-            await backend.ended.wait()
-            if backend is self.backend and backend is not self.retired:
+            replica = self.replica
+            await replica.backend.ended.wait()
+            if replica is self.replica and replica is not self.retired:
                 return
             await asyncio.sleep(AGAIN)
 
@@ -241,9 +248,9 @@ class Follower:
 
     async def give_up(self) -> None:
         """Ends the server for good; its reads go to others."""
-        self.is_ready, self.is_ended = False, True
-        if self._backend is not None:
-            self.backend.kill()
+        self.is_ended = True
+        if self.replica.has_begun:
+            self.replica.kill("its node ends it")
             await self.backend.ended.wait()
             self._settle_in_flight()
         self._reads.changed()
@@ -261,18 +268,19 @@ class Follower:
         """Ends a server that a read holds for longer than the seconds, or an entry for longer than
         its own; the next server halts before that entry. What this node asks for a snapshot may
         take long, and not for ever."""
-        if self._backend is None or self.backend.ended.is_set() or not self.backend.in_flight:
+        if not self.replica.runs or not self.backend.in_flight:
             return
         front, worked = self.backend.in_flight[0], self.backend.worked()
-        if isinstance(front, Asked):
-            if worked <= entry_seconds:
-                return
+        if self.backend.leave_for_nobody(GONE):
+            self.replica.left = front
+            return
+        if isinstance(front, Own):
+            seconds = entry_seconds if isinstance(front, Entry) else max(entry_seconds, OWN_SECONDS)
+        if worked <= seconds:
+            return
+        if isinstance(front, Entry):
             self._aside[front.place] = (f"the entry of place {front.place:,} held its server for "
                                         f"over {entry_seconds:g} seconds")
-        elif front in self.reading and worked > GONE and front.peer and front.peer.has_gone():
-            front.peer.cut()
-        elif worked <= (seconds if front in self.reading else max(entry_seconds, OWN_SECONDS)):
-            return
         self.backend.overdue = front
         self.backend.kill()
 
@@ -292,9 +300,8 @@ class Follower:
 
     async def _begin_again(self) -> None:
         """Starts a server in the place of one that has ended, from the newest snapshot."""
-        self.is_ready = False
-        self.say(f"{self.name}: the server is started again ({self.backend.status()}, at "
-                 f"{self.state})")
+        why = self.replica.why or self.backend.status()
+        self.say(f"{self.name}: the server is started again ({why}, at {self.state})")
         self._settle_in_flight()
         for number, delay in enumerate(START_DELAYS):
             await asyncio.sleep(delay)
@@ -308,34 +315,29 @@ class Follower:
 
     def _settle_in_flight(self) -> None:
         """Settles what the server that ended had: each entry is carried out anew by the next one;
-        clients' reads go back to whoever sent them."""
-        in_flight = list(self.backend.in_flight)
-        self.backend.in_flight.clear()
-        self.promised = 0
-        if in_flight and isinstance(in_flight[0], Asked):
+        clients' reads go to other servers, or are answered."""
+        self.replica.state, self.promised = ServerState.DOWN, 0
+        front = next(iter(self.backend.in_flight), None)
+        if isinstance(front, Entry) and not front.unsent:
             self._ends[self.state.place] = self._ends.get(self.state.place, 0) + 1
-        for number, request in enumerate(in_flight):
-            if isinstance(request, Asked):
-                if not request.done.done():
-                    request.done.set_exception(ServerEnded())
-            elif request in self.reading:
-                self.reading.discard(request)
-                is_blamed = number == 0 and not self.backend.is_worth_a_repetition(request)
-                is_overdue = self.backend.overdue is request
-                self._reads.returned(request, is_blamed, is_overdue)
+        self.settle_reads(self.replica)
 
-    def _on_reply(self, request: Request, reply: bytes) -> None:
-        if isinstance(request, Asked):
+    def settle_reads(self, replica: Replica) -> None:
+        """Gives others the reads that a server of this follower had when it ended."""
+        self._reads.release(replica, self._blame(replica))
+        self._reads.changed()
+
+    @staticmethod
+    def _blame(replica: Replica) -> bytes | None:
+        """What the read gets that the server was at, where that made it end, or may have."""
+        is_innocent = replica.why or replica.backend.is_blameless()
+        return blame(replica) or (None if is_innocent else WANTING_STORE)
+
+    def _on_reply(self, replica: Replica, request: Request, reply: bytes) -> None:
+        if isinstance(request, Entry):
             self.line = self.carried = (
                 request.place if reply[0] != Status.WANTING else self.carried)
-            if not request.done.done():
-                request.done.set_result(reply)
-            return
-        if request in self.reading:
-            self.reading.discard(request)
-            self._reads.raise_floor(self.carried)
-            self._reads.changed()
-        give(request, reply)
+        self._reads.on_reply(self, replica, request, reply)
 
     async def _follow(self) -> None:
         """Takes each message of the log as it comes, until it raises what ends that."""
@@ -447,7 +449,9 @@ class Follower:
             raise Halted(f"{ends} servers in turn ended at the next entry")
         passed("sent")
         self.line = place
-        reply = await ask(self.backend, entry, place)
+        asked = Entry(None, 0, entry, place=place)
+        self.replica.put_own(asked)
+        reply = await asked.done
         passed("replied")
         if reply[0] == Status.WANTING:
             bound = self.given.memory
@@ -507,14 +511,13 @@ class Follower:
 
     async def end(self) -> None:
         """Ends the server in order, and notes beside its file where it stands."""
-        if self._backend is None:
+        if not self.replica.has_begun:
             return
-        self.is_ready = False
-        await self.backend.finish()
+        self.replica.state = ServerState.LEAVING
+        await self.replica.finish()
         if self.given.file and not self.halted and self.backend.process.returncode == 0:
             await asyncio.to_thread(self.given.file.end, self.state)
 
     def abandon(self) -> None:
         """Ends the server at once."""
-        if self._backend is not None:
-            self._backend.kill()
+        self.replica.kill("its node ends it")

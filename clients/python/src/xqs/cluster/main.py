@@ -22,6 +22,7 @@ from xqs.cluster.status import status_of
 from xqs.errors import XqError
 from xqs.multiplexer import is_on_file
 from xqs.mux_clients import Settings
+from xqs.starting import keeping
 
 USAGE = ("xqs node --log amqp://HOST/NAME[,..] --listen unix:PATH|tcp:PORT [OPTIONS] "
          "[-- COMMAND [WORDS]]")
@@ -172,7 +173,7 @@ def main(words: Sequence[str]) -> int:
             + ("after an end that was not in order " if file else "")
             + "carries out the log from its beginning")
     options = Options(
-        given.name, command, given.program or "", given.servers,
+        given.name, keeping(command, given.kept, given.servers), given.program or "", given.servers,
         pathlib.Path(file) if file else None, folder, given.every, given.seconds, given.fresh,
         given.memory // given.servers if given.memory else None)
     return ending.run(
@@ -205,6 +206,7 @@ def _parser() -> argparse.ArgumentParser:
     option("--memory", type=bounds.memory_of, metavar="SIZE", default=bounds.half_of_memory(),
            help="how much memory all servers of this node may have together, as 8G (half of this "
            f"machine's, {bounds.shown_size(bounds.half_of_memory())}; 0: any)")
+    mux.add_kept(option)
     option("--fresh", action="store_true",
            help="each read sees all that the log held when it was asked")
     option("--program", metavar="TEXT",

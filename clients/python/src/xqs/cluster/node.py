@@ -4,7 +4,6 @@ import asyncio
 import contextlib
 import os
 import time
-import weakref
 from collections.abc import Callable, Sequence
 from dataclasses import dataclass
 from functools import partial
@@ -17,12 +16,12 @@ from xqs.cluster.follower import Ended, Follower, Given
 from xqs.cluster.log import Log
 from xqs.cluster.names import Names
 from xqs.cluster.outbox import Outbox, Pending, Unknown
-from xqs.cluster.reads import WANTING_STORE, Reads
+from xqs.cluster.reads import Reads
 from xqs.cluster.store_file import StoreFile
 from xqs.cluster.upkeep import take_snapshot
 from xqs.errors import XqError
 from xqs.mux_clients import Clients, Settings
-from xqs.mux_peer import Peer, Request
+from xqs.mux_peer import WANTING_STORE, Request
 from xqs.waiting import cancelled
 
 NEAR = 2.0
@@ -35,8 +34,8 @@ COMING_UP, SHORT = 5.0, 0.02
 """Seconds in which the server that is to take a snapshot may come as far as the others, and those
 between two looks."""
 READS_OF_ONE = 16
-"""So many reads of one server wait for their replies where there is one; else one of each, so that
-a query that never ends holds no other."""
+"""So many reads are at a server at once where there is one; else one, so that a query that never
+ends holds no other."""
 
 
 @dataclass(frozen=True)
@@ -71,12 +70,13 @@ class Node:
         self.log = log
         self.say = say
         self.outbox = Outbox(f"{options.name}/{os.urandom(6).hex()}", log, options.seconds)
-        self.reads = Reads(READS_OF_ONE if options.servers == 1 else 1)
+        self.reads = Reads(settings.unread, READS_OF_ONE if options.servers == 1 else 1)
         self.followers = [self._follower(number) for number in range(options.servers)]
         self.reads.followers = self.followers
         self._clients = Clients(settings, say, self._handle)
         self.serve = self._clients.serve
-        self._writes: weakref.WeakKeyDictionary[Peer, Pending] = weakref.WeakKeyDictionary()
+        self.reads.clients = lambda: len(self._clients)
+        self.reads.on_large = self._clients.cut_largest
         self._tasks: list[asyncio.Task[None]] = []
         self.snapshot_place = 0
         self.names = Names(self.outbox, self._refuse_name)
@@ -96,8 +96,8 @@ class Node:
             path = options.file.with_name(options.file.name + end)
             command += ["--file", str(path)]
             file = StoreFile(path.absolute())
-        given = Given(name, options.name, command, options.program, file, options.snapshots,
-                      options.memory)
+        given = Given(number + 1, name, options.name, command, options.program, file,
+                      options.snapshots, options.memory)
         return Follower(given, self.log, self.outbox, self.reads, self.say)
 
     async def start(self) -> None:
@@ -217,7 +217,8 @@ class Node:
         return any(not it.halted and not it.is_ended for it in self.followers)
 
     async def _handle(self, request: Request) -> None:
-        """Takes a frame of a client, in the order of its frames."""
+        """Takes a frame of a client, in the order of its frames: its reads wait for the writes
+        before them, its writes for the reads."""
         if request.changes():
             await self._write(request)
         else:
@@ -225,12 +226,13 @@ class Node:
 
     async def _write(self, request: Request) -> None:
         assert request.peer is not None
+        await request.peer.until_read()
         refused = WANTING_STORE if self._is_cut_off() else await self._tried(request)
         if refused or self._is_cut_off():
             request.peer.answer(request, refused or WANTING_STORE)
             return
+        request.peer.writes += 1
         pending = await self.outbox.put(request.payload)
-        self._writes[request.peer] = pending
         pending.done.add_done_callback(partial(self._written, request))
 
     def _is_cut_off(self) -> bool:
@@ -240,22 +242,19 @@ class Node:
         """Asks the query of a store as a query first, once the client's own writes before it are
         answered; the reply by which it is refused."""
         query = trials.query_of(request)
-        if query is None:
+        if query is None or request.peer is None:
             return None
-        await self._own_writes_of(request)
-        return await trials.refusal_of(query, self.reads.ask)
-
-    async def _own_writes_of(self, request: Request) -> None:
-        """Waits until this client's own writes before the request are answered."""
-        if request.peer and (before := self._writes.get(request.peer)):
-            await asyncio.wait((before.done,))
+        await request.peer.until_written()
+        return await trials.refusal_of(query, partial(self.reads.ask, request.peer))
 
     @staticmethod
     def _written(request: Request, done: "asyncio.Future[bytes]") -> None:
         """Answers a write; one of which nobody knows what becomes of it ends its client's stream,
         as the protocol has it of a frame that may have been carried out."""
         peer = request.peer
-        if peer is None or peer.gone:
+        assert peer is not None
+        peer.settle(request)
+        if peer.gone:
             return
         if done.cancelled() or done.exception():
             peer.end()
@@ -265,11 +264,11 @@ class Node:
     async def _read(self, request: Request) -> None:
         """Hands a read to a server, once this client's own writes before it are answered."""
         assert request.peer is not None
-        await self._own_writes_of(request)
+        await request.peer.until_written()
         if self.options.is_fresh and not await self._has_all():
             request.peer.answer(request, WANTING_STORE)
             return
-        await self.reads.send(request)
+        await self.reads.hand_over(request)
 
     async def _has_all(self) -> bool:
         """Waits until a server has carried out all that the log holds now; whether one could."""
@@ -323,7 +322,7 @@ class Node:
     @staticmethod
     def _for_snapshot(able: Sequence[Follower]) -> Follower:
         """The server for a snapshot: one at a query would have it wait for that."""
-        idle = [it for it in able if not it.reading] or able
+        idle = [it for it in able if not it.replica.reads] or able
         return min(idle, key=lambda it: it.state.place)
 
     def _note_snapshot(self, place: int) -> None:

@@ -1,36 +1,30 @@
 """Reads of a node's clients, each answered by one of its servers."""
 
-import asyncio
 from collections.abc import Sequence
 from typing import TYPE_CHECKING
 
-from xqs.cluster.serving import Posed, give
-from xqs.mux_peer import Request, refusal
-from xqs.protocol import Status
+from xqs.cluster.serving import Entry
+from xqs.mux_backend import Own
+from xqs.mux_peer import WANTING_STORE, Request
+from xqs.reading import Reading
+from xqs.replica import Replica
 
 if TYPE_CHECKING:
     from xqs.cluster.follower import Follower
 
-WANTING_STORE = bytes([Status.WANTING]) + b"store"
-TOO_SLOW = refusal("xqs:SECONDS")
 
-
-class Reads:
+class Reads(Reading):
     """Hands each read to a server that is free and far enough.
 
     `floor` is the furthest place that a read of this node saw or may be about to see, or one of
     its writes was answered at: a later read sees all up to it, whichever server answers. An entry
-    counts that stands in a server's line before a read. `window` reads of one server wait for
-    their replies.
+    counts that stands in a server's line before a read.
     """
 
-    def __init__(self, window: int) -> None:
+    def __init__(self, unread: int, depth: int) -> None:
+        super().__init__(unread, depth)
         self.followers: Sequence["Follower"] = ()
         self._answered = 0
-        self._window = window
-        self._turn = asyncio.Lock()
-        self._changed = asyncio.Event()
-        self._again: set[asyncio.Task[None]] = set()
 
     @property
     def floor(self) -> int:
@@ -39,58 +33,59 @@ class Reads:
         promised = [it.promised for it in self.followers if not it.halted]
         return max(self._answered, *promised, 0)
 
+    def ready(self) -> list[Replica]:
+        """The servers that answer reads."""
+        return [it.replica for it in self.followers if it.is_ready and it.replica.runs]
+
+    def is_open(self, replica: Replica) -> bool:
+        """Whether a server is as far as each read has to see."""
+        return self._of(replica).line >= self.floor
+
+    def may_read(self, replica: Replica, request: Request, count: int) -> bool:
+        """Whether a read would not wait for something that takes long."""
+        return not replica.is_held
+
+    def place_of(self, replica: Replica) -> int:
+        """The place of the last entry in the server's line."""
+        return self._of(replica).line
+
+    def note_given(self, replica: Replica) -> None:
+        """A read is about to stand in the line of this server."""
+        follower = self._of(replica)
+        follower.promised = max(follower.promised, follower.line)
+
+    def _of(self, replica: Replica) -> "Follower":
+        return next(it for it in self.followers if it.replica is replica)
+
     def changed(self) -> None:
-        """A server has reached a place, answered a read, begun, or ended."""
-        self._changed.set()
+        """A server has reached a place, answered a request, begun, or ended."""
+        if self.waiting:
+            self.dispatch()
+
+    def dispatch(self) -> None:
+        """Gives those that wait the servers that are free, in their order; all are answered as
+        wanting the store where no server is left."""
+        super().dispatch()
+        if self.waiting and not self._can_any_come():
+            self.refuse_waiting(WANTING_STORE)
+
+    def _can_any_come(self) -> bool:
+        """Whether a server can take a read that waits, now or later."""
+        floor = self.floor
+        return any(not it.is_ended and (not it.halted or it.is_ready and it.line >= floor)
+                   for it in self.followers)
 
     def raise_floor(self, place: int) -> None:
         """A read has seen that place, or a write of this node is about to be answered at it."""
         self._answered = max(self._answered, place)
 
-    async def send(self, request: Request) -> None:
-        """Sends a read to a server, those that wait in their order; its peer gets the reply.
-
-        It is answered as wanting the store where no server is left.
-        """
-        async with self._turn:
-            follower = await self._free(request)
-            if follower is None:
-                give(request, WANTING_STORE)
-                return
-            follower.reading.add(request)
-            follower.promised = max(follower.promised, follower.line)
-        await follower.backend.send(request)
-
-    async def ask(self, payload: bytes) -> bytes:
-        """The status and text of a server's reply to a read of the node itself."""
-        posed = Posed(None, 0, payload)
-        await self.send(posed)
-        return await posed.done
-
-    async def _free(self, request: Request) -> "Follower | None":
-        """A server for the read; None where its client has gone, or no server is left that is far
-        enough or comes on."""
-        while not (request.peer and request.peer.gone):
-            floor = self.floor
-            able = [it for it in self.followers if it.is_ready and it.line >= floor]
-            free = [it for it in able if len(it.reading) < self._window]
-            if free:
-                return min(free, key=lambda it: len(it.reading))
-            if all(it.is_ended or it.halted and it not in able for it in self.followers):
-                return None
-            self._changed.clear()
-            await self._changed.wait()
-        return None
-
-    def returned(self, request: Request, is_blamed: bool, is_overdue: bool = False) -> None:
-        """A server ended before its reply to the read: the one that it was at is refused, as one
-        that may be sent again, or as one that took too long; those behind it go to the next
-        server."""
-        if is_overdue:
-            give(request, TOO_SLOW)
-        elif is_blamed:
-            give(request, WANTING_STORE)
-        else:
-            task = asyncio.create_task(self.send(request))
-            self._again.add(task)
-            task.add_done_callback(self._again.discard)
+    def on_reply(self, follower: "Follower", replica: Replica, request: Request,
+                 reply: bytes) -> None:
+        """A server has answered a request, with the documents of the place that it has carried
+        out."""
+        if not isinstance(request, Own):
+            request.place = follower.carried
+            self.raise_floor(follower.carried)
+            self.take_reply(replica, request, reply)
+        if not isinstance(request, Entry):  # (the next read waits until that is noted)
+            self.changed()

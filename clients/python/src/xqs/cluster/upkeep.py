@@ -8,8 +8,8 @@ from xqs.cluster.follower import Follower
 from xqs.cluster.serving import with_client
 from xqs.errors import XqError
 from xqs.filling import Filling
-from xqs.mux_backend import Backend
 from xqs.protocol import FRAME_LIMIT
+from xqs.replica import Replica, State
 
 FILE_FRAMES = FRAME_LIMIT - 10_000
 """Frames after which a server on a file is started again."""
@@ -26,20 +26,21 @@ def wants_renewal(follower: Follower) -> bool:
 async def renew(follower: Follower) -> None:
     """Starts the server again between two messages, with the documents that it has."""
     async with follower.between:
-        follower.retired = old = follower.backend
+        follower.retired = old = follower.replica
         try:
             if follower.given.file:
-                follower.is_ready = False
+                old.state = State.LEAVING
                 await old.finish()
                 follower.go_on_with(await follower.start_server())
             else:
                 follower.go_on_with(await _copied(follower, old))
                 await old.finish()
+            follower.settle_reads(old)
         finally:
             follower.retired = None
 
 
-async def _copied(follower: Follower, old: Backend) -> Backend:
+async def _copied(follower: Follower, old: Replica) -> Replica:
     """A server in memory that has the documents of another one, to which nothing is written."""
     new = await follower.start_server()
     try:
@@ -47,7 +48,7 @@ async def _copied(follower: Follower, old: Backend) -> Backend:
         await filling.copy_most()
         await filling.finish()
     except BaseException:
-        new.kill()
+        new.kill("it could not be filled")
         raise
     return new
 
@@ -63,7 +64,7 @@ async def take_snapshot(follower: Follower) -> str:
             raise XqError(f"{follower.name} does not follow the log")
         state = follower.state
         path, count = await with_client(
-            follower.backend, lambda it: snapshots.write(it, state, folder))
+            follower.replica, lambda it: snapshots.write(it, state, folder))
         await asyncio.to_thread(snapshots.remove_old, folder)
         return f"{path}: {count} documents of {state}"
 

@@ -11,6 +11,7 @@ from xqs.cluster.limits import within
 from xqs.cluster.log import Away
 from xqs.cluster.upkeep import renew, wants_renewal
 from xqs.errors import XqError
+from xqs.watching import Stopped
 
 if TYPE_CHECKING:
     from xqs.cluster.node import Node
@@ -69,10 +70,13 @@ def is_snapshot_due(node: "Node") -> bool:
 
 
 async def watch_held(node: "Node") -> None:
-    """Ends a server that a read holds for too long; one that an entry holds steps aside."""
-    longest = node.options.seconds
+    """Ends a server that a read holds for too long; one that an entry holds steps aside; one that
+    was stopped as a process is started again."""
+    longest, stopped = node.options.seconds, Stopped()
     while True:
         await asyncio.sleep(min(HELD, longest / 4))
+        for replica in stopped.look(it.replica for it in node.followers):
+            replica.kill("its process was stopped")
         for follower in node.followers:
             follower.end_held(longest, ENTRY_TIMES * longest)
 

@@ -1,0 +1,309 @@
+"""Reads of clients, each of which one of several servers answers: which one, when, and what becomes
+of those that a server had when it ended.
+
+The reads of one client see no earlier documents than those before them, in the order of its frames,
+whichever servers they go to. While other clients are connected, no client has all servers.
+"""
+
+import asyncio
+import collections
+import dataclasses
+import hashlib
+import time
+from collections.abc import Callable, Sequence
+
+from xqs.mux_backend import Own
+from xqs.mux_peer import WANTING_STORE, Peer, Request
+from xqs.replica import Replica
+
+SLOW = 0.25
+"""Seconds from which on a query is remembered as a slow one."""
+FAST = 0.02
+"""Seconds up to which a query is remembered as a fast one."""
+DEPTH = 3
+"""So many reads are at a server at once, where those before the last one were fast before."""
+REMEMBERED = 1_000
+"""So many slow queries are remembered, and so many fast ones."""
+LONGEST_KEY = 2_000
+"""A query of so many bytes is remembered by its text, a longer one by a digest."""
+
+
+@dataclasses.dataclass(eq=False, slots=True)
+class Turn:
+    """A read that waits for a server; `given` says that it has one, or needs none."""
+
+    request: Request
+    given: "asyncio.Future[None] | None" = None
+    since: float = dataclasses.field(default_factory=time.monotonic)
+
+
+@dataclasses.dataclass(eq=False, slots=True)
+class Posed(Request):
+    """A read that is asked on behalf of a client; `done` gives the status and text of its reply."""
+
+    done: "asyncio.Future[bytes]" = dataclasses.field(
+        default_factory=lambda: asyncio.get_running_loop().create_future())
+
+
+class Reading:
+    """The reads that wait, in their order, and those that servers have.
+
+    A subclass says which servers there are. `depth` reads are at a server at once, whatever is
+    known of them. `on_read` gets each read with the reply that its client gets, `on_wanting` a
+    server that gave a reply of `store`; `on_large` is called after a reply of over `unread` bytes.
+    """
+
+    on_read: Callable[[Request, bytes], None] = staticmethod(lambda request, reply: None)
+    on_wanting: Callable[[Replica], None] = staticmethod(lambda replica: None)
+    on_large: Callable[[], None] = staticmethod(lambda: None)
+
+    def __init__(self, unread: int, depth: int = 1) -> None:
+        self._unread, self._depth = unread, depth
+        self.clients: Callable[[], int] = lambda: 1
+        self.waiting: collections.deque[Turn] = collections.deque()
+        self._uses = 0
+        self._slow: dict[bytes, None] = {}
+        self._fast: dict[bytes, None] = {}
+
+    # ---- what a subclass says of its servers
+
+    def ready(self) -> Sequence[Replica]:
+        """The servers that are given reads."""
+        raise NotImplementedError
+
+    def is_open(self, replica: Replica) -> bool:
+        """Whether a server can be given reads now, as far as its writes go."""
+        raise NotImplementedError
+
+    def may_read(self, replica: Replica, request: Request, count: int) -> bool:
+        """Whether a server that is open can take this read; `count` servers are given reads."""
+        raise NotImplementedError
+
+    def is_kept_back(self, replica: Replica) -> bool:
+        """Whether others are given reads before this server is."""
+        return False
+
+    def place_of(self, replica: Replica) -> int:
+        """How many writes a read sees that this server is given now."""
+        raise NotImplementedError
+
+    # ---- which server a read is given
+
+    async def hand_over(self, request: Request) -> None:
+        """Takes a read of a client; comes back once a server has it."""
+        turn = Turn(request)
+        if self.waiting or not self._give(request, None):
+            turn.given = asyncio.get_running_loop().create_future()
+            self.waiting.append(turn)
+            self.dispatch()
+            await turn.given
+
+    async def ask(self, peer: Peer, payload: bytes) -> bytes:
+        """The status and text of the reply to a read that is asked on behalf of a client."""
+        posed = Posed(peer, 0, payload)
+        await self.hand_over(posed)
+        return await posed.done
+
+    def dispatch(self) -> None:
+        """Gives those that wait the servers that are free, in their order."""
+        at, passed = 0, set[Peer]()
+        while at < len(self.waiting):
+            turn, before = self.waiting[at], self.waiting[at].request.place
+            peer = turn.request.peer
+            if peer is not None and not peer.gone:
+                if peer in passed or not self._give(turn.request, turn):
+                    if not self._is_any_free():
+                        return
+                    passed.add(peer)
+                    at += 1
+                    continue
+            else:
+                self._forget(turn.request, turn.given is None)
+            del self.waiting[at]
+            if turn.given and not turn.given.done():
+                turn.given.set_result(None)
+            if 0 <= before < turn.request.place and self._take_back(turn.request):
+                at = 0
+
+    def refuse_waiting(self, reply: bytes) -> None:
+        """Gives all reads that wait this reply, since no server will take them."""
+        while self.waiting:
+            turn = self.waiting.popleft()
+            if turn.given is None:
+                settled(turn.request)
+            elif not turn.given.done():
+                turn.given.set_result(None)
+            give(turn.request, reply)
+
+    def _is_any_free(self) -> bool:
+        return any(self._has_room(it) and self.is_open(it) for it in self.ready())
+
+    def _has_room(self, replica: Replica) -> bool:
+        return replica.reads < self._depth or replica.reads == replica.fast_reads < DEPTH
+
+    def _give(self, request: Request, turn: Turn | None) -> bool:
+        """Puts a read into the line of a server; whether one is free for it."""
+        is_new = turn is None or turn.given is not None
+        replica = self._free(request, is_new)
+        if replica is None or request.peer is None:
+            return False
+        request.peer.reads += is_new
+        request.place, request.sent = self.place_of(replica), time.monotonic()
+        request.is_fast = _key(request) in self._fast
+        self._uses += 1
+        replica.last_used = self._uses
+        replica.reads += 1
+        replica.fast_reads += request.is_fast
+        self.note_given(replica)
+        replica.put(request)
+        return True
+
+    def note_given(self, replica: Replica) -> None:
+        """A read is about to stand in the line of this server."""
+
+    def _free(self, request: Request, is_new: bool) -> Replica | None:
+        """A server for a read; `is_new` says that its client's reads don't count it yet."""
+        ready = self.ready()
+        free = [it for it in ready if it.reads < self._depth and self._takes(it, request, ready)]
+        if not free or len(free) == 1 < len(ready) and self.has_its_share(
+                request, is_new, len(ready)):
+            return self._behind(request, ready)
+        return min(free, key=lambda it: (bool(it.watchers), self.is_kept_back(it), it.waiting,
+                                         it.last_used))
+
+    def _takes(self, replica: Replica, request: Request, ready: Sequence[Replica]) -> bool:
+        return self.is_open(replica) and self.may_read(replica, request, len(ready))
+
+    def _behind(self, request: Request, ready: Sequence[Replica]) -> Replica | None:
+        """A server whose reads were all fast before: it needs not wait for the next one."""
+        able = [it for it in ready if 0 < it.reads == it.fast_reads < DEPTH and not it.watchers
+                and self._takes(it, request, ready)]
+        return min(able, key=lambda it: (it.reads, it.last_used)) if able else None
+
+    def is_slow(self, request: Request) -> bool:
+        """Whether a query was slow before."""
+        return _key(request) in self._slow
+
+    def has_its_share(self, request: Request, is_new: bool, count: int) -> bool:
+        """Whether a client has so many reads under way that the last server is left to others."""
+        reads = request.peer.reads - (not is_new) if request.peer else 0
+        return reads >= count - 1 and self.clients() > 1
+
+    def _take_back(self, request: Request) -> bool:
+        """Has those reads asked once more that its client sent behind one that sees more writes
+        now than they did; whether some wait for that."""
+        assert request.peer is not None
+        is_any = False
+        for later in reversed(request.peer.behind(request)):
+            if later.place < 0 or later.place >= request.place:
+                continue
+            if later.reply is None:
+                later.is_stale = True
+            else:
+                later.reply = None
+                request.peer.reads += 1
+                self.waiting.appendleft(Turn(later))
+                is_any = True
+        return is_any
+
+    # ---- replies
+
+    def take_reply(self, replica: Replica, request: Request, reply: bytes) -> None:
+        """A server has answered a read."""
+        replica.reads -= 1
+        replica.fast_reads -= request.is_fast
+        self._remember(request, replica.backend.last_work)
+        if request.is_stale:
+            request.is_stale = False
+            self.waiting.appendleft(Turn(request))
+        elif reply == WANTING_STORE:
+            self.on_wanting(replica)
+            self._again_or(request, reply)
+        else:
+            self.answer(request, reply)
+            self.on_read(request, reply)
+
+    def _remember(self, request: Request, seconds: float) -> None:
+        """Notes whether a query is a slow one, or a fast one."""
+        key = _key(request)
+        for known, is_one in ((self._slow, seconds >= SLOW), (self._fast, seconds <= FAST)):
+            if not is_one:
+                known.pop(key, None)
+            elif key not in known:
+                known[key] = None
+                if len(known) > REMEMBERED:
+                    del known[next(iter(known))]
+
+    def answer(self, request: Request, reply: bytes) -> None:
+        """Gives a client its reply."""
+        settled(request)
+        give(request, reply)
+        if len(reply) > self._unread:
+            self.on_large()
+
+    def _again_or(self, request: Request, reply: bytes) -> None:
+        """Has a read asked once more, or gives it a reply where it was already."""
+        if request.repeated:
+            self.answer(request, reply)
+        else:
+            request.repeated = True
+            self.waiting.appendleft(Turn(request))
+
+    @staticmethod
+    def _forget(request: Request, is_counted: bool) -> None:
+        """A read whose client has gone needs no reply."""
+        if is_counted:
+            settled(request)
+        give(request, WANTING_STORE)
+
+    # ---- a server that ended
+
+    def release(self, replica: Replica, front_reply: bytes | None) -> None:
+        """A server has ended: what it had without a reply goes to others, or is answered.
+
+        `front_reply` is what the request gets that it was at, where that made it end; else None.
+        Where `why` says that the server was ended from here, that request is not to blame.
+        """
+        in_flight = replica.backend.in_flight
+        front = in_flight[0] if in_flight and not in_flight[0].unsent else None
+        for request in reversed(replica.take_all()):
+            if request.peer and request is not front:
+                self.put_back(request)
+        if front is not None and front.peer:
+            self.settle_front(replica, front, front_reply)
+
+    def put_back(self, request: Request) -> None:
+        """A server had this request in its line when it ended, and did nothing of it."""
+        self.waiting.appendleft(Turn(request))
+
+    def settle_front(self, replica: Replica, front: Request, reply: bytes | None) -> None:
+        """Settles the request that a server was at when it ended."""
+        if replica.left is front:
+            self._forget(front, True)
+        elif reply is not None:
+            self.answer(front, reply)
+        elif replica.why:
+            self.waiting.appendleft(Turn(front))
+        else:
+            self._again_or(front, WANTING_STORE)
+
+
+def settled(request: Request) -> None:
+    """Counts a request no more among those of its client that have no reply."""
+    if request.peer:
+        request.peer.settle(request)
+
+
+def give(request: Request, reply: bytes) -> None:
+    """Gives a request its reply, if anybody still waits for it."""
+    if isinstance(request, Posed | Own):
+        if not request.done.done():
+            request.done.set_result(reply)
+    elif request.peer and not request.peer.gone:
+        request.peer.answer(request, reply)
+
+
+def _key(request: Request) -> bytes:
+    if len(request.payload) <= LONGEST_KEY:
+        return request.payload
+    return hashlib.blake2b(request.payload, digest_size=16).digest()
