@@ -162,8 +162,8 @@ class Rude(Worker):
     """How long it waits for a socket that takes nothing."""
 
     def _work(self) -> None:
-        acts = [self._half, self._huge, self._noise, self._unread, self._drip, self._leave]
-        act = self._leave_long if self._chance.random() < 0.005 else self._chance.choice(acts)
+        act = self._chance.choice([self._half, self._huge, self._noise, self._unread, self._drip,
+                                   self._leave])
         with suppress(OSError), self._connect() as connection:
             connection.socket.settimeout(self.SHORT)
             act(connection)
@@ -209,9 +209,15 @@ class Rude(Worker):
         if self._chance.random() < 0.5:
             connection.socket.shutdown(socket.SHUT_WR)
 
-    def _leave_long(self, connection: Connection) -> None:
-        """Goes while a server is at its query, which takes for ever."""
-        connection.send(b"Q", ENDLESS)
+
+class Abandoner(Worker):
+    """Goes, now and then, while a server is at its query, which takes for ever. The last server
+    that holds documents in memory would stay at it, so this is for those in a file."""
+
+    def _work(self) -> None:
+        with suppress(OSError), self._connect() as connection:
+            connection.send(b"Q", ENDLESS)
+        time.sleep(self._chance.uniform(2, 8))
 
 
 class Reader(Worker):

@@ -12,7 +12,7 @@ from contextlib import suppress
 from pathlib import Path
 
 from tests import test_mux
-from tests.models import Model, Reader, Rude, Worker, Writer
+from tests.models import Abandoner, Model, Reader, Rude, Worker, Writer
 from tests.serving import ENDLESS, PATIENCE, Connection, RunningMux, store_body
 from tests.support import FolderTest, server_command
 
@@ -92,6 +92,7 @@ class TrialTest(ServersTest):
             Writer(model, mux.connect, until, number) for number in range(1, 4)]
         workers += [Reader(model, mux.connect, until, 100 + number) for number in range(4)]
         workers += [Rude(model, mux.connect, until, 200 + number) for number in range(2)]
+        workers += [Abandoner(model, mux.connect, until, 300)] if on_file else []
         faults = 0
         while time.monotonic() < until and not model.faults:
             time.sleep(chance.uniform(0.2, 1.5))
