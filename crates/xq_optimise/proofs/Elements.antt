@@ -5,6 +5,10 @@ use Rattle.std.proofs.lemmas.List.{take_all}
 use Rattle.std.specs.List.{AllByRecursion}
 use Rattle.xq_trees.proofs.Lists.{all_append}
 
+pub next_taken : {A : Type 0} (all : List A) (i : ℕ) (x : A) → i < length all → x ≡ get_or all i x →
+    take (i + 1) all ≡ take i all ++ x ∷ []
+next_taken all i x lt is = rw add-one (take-suc all i x lt ∙ ap (λ z. take i all ++ z ∷ []) (sym is))
+
 pub all_next : {A : Type 0} (P : A → Type 0) (all : List A) (i : ℕ) (x : A) → AllByRecursion P (take i all) →
     i < length all → x ≡ get_or all i x → P x → AllByRecursion P (take (i + 1) all)
 all_next {A} P all i x h lt is px =

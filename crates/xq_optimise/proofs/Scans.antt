@@ -1,7 +1,8 @@
 -- Scans from nodes give nodes, and are never refused.
-use Rattle.std.proofs.Common.{◌≡◌, ◌<◌, ℕ, zero, suc, length, arith, List, [], ◌∷◌, map, Ok, Err, refl, sym, ap, ◌∙◌, subst, ◌⊎◌, inl, inr}
+use Rattle.std.proofs.Common.{◌≡◌, ℕ, zero, suc, List, [], ◌∷◌, ◌++◌, map, Ok, Err, refl, sym, ap, ◌∙◌, subst, ◌⊎◌, inl, inr}
 use Rattle.std.specs.Prelude.{Some, slice_get}
 use Rattle.std.specs.List.{AllByRecursion, flat_map}
+use Rattle.std.proofs.lemmas.List.{map-append}
 use Rattle.xq_atoms.specs.Judged.{◌>>=◌}
 use Rattle.xq_atoms.specs.declared.refusals.Code.{Code}
 use Rattle.xq_atoms.specs.declared.refusals.Code.TheVariants.{XPTY0019}
@@ -21,11 +22,13 @@ use Rattle.xq_meaning.specs.Forms
 use Rattle.xq_meaning.specs.PlanMeaning.{Slots, Frame, next_step, plan_mean, plan_step_mean}
 use Rattle.xq_meaning.specs.Same.{frame_of}
 use Rattle.xq_meaning.proofs.PlanEquations as plan_eq
+use Rattle.xq_meaning.proofs.SameForms.{go_on_same}
+use Rattle.xq_meaning.proofs.Turns.{go_on_go_on, in_turn-append}
 use Rattle.xq_optimise.specs.declared.held.Held.{Held}
 use Rattle.xq_optimise.specs.declared.held.Held.TheVariants.{Nodes, Anything}
 use Rattle.xq_optimise.specs.Known.{Holds, Fits}
 use Rattle.xq_optimise.specs.Sure.{SurelyNodes}
-use Rattle.xq_optimise.specs.private.Parts.{IsHeld, GivesHeld, IsScan}
+use Rattle.xq_optimise.specs.private.Parts.{IsHeld, GivesHeld, IsScan, EndsInScan}
 
 pub nodes_all : (code : Code) (ps : List Place) → all_nodes code (map Node ps) ≡ Ok ps
 nodes_all code [] = refl
@@ -98,19 +101,26 @@ after_start frame s steps (axis, test, is) all (Ok xs, f) =
     (first_scan frame axis test steps all xs f (nodes_or_refused xs))
 after_start frame s steps scan all (Err code, f) = tt
 
--- a path of scans, of one or more, has nodes
-pub path_held : (known : List Held) (start : Plan) (s : PlanStep) (steps : List PlanStep) → AllByRecursion IsScan (s ∷ steps) →
-    IsHeld known Nodes (plan.Path start (s ∷ steps))
-path_held known start s steps all slots focus addresses trees fits =
+-- a path that ends in a scan has nodes
+path_held : (known : List Held) (start : Plan) (before : List PlanStep) (s : PlanStep) → IsScan s →
+    IsHeld known Nodes (plan.Path start (before ++ s ∷ []))
+path_held known start before s is slots focus addresses trees fits =
     let frame = frame_of slots focus addresses in
-    subst (λ m. HasNodes (m frame trees)) (sym (plan_eq.plan-Path start (s ∷ steps)))
-    (after_start frame s steps all.0 all.1 (plan_mean start frame trees))
+    let act = next_step frame in
+    let o = plan_mean start frame trees in
+    let apart : plan_mean (plan.Path start (before ++ s ∷ [])) frame trees
+    ≡ go_on (go_on o (λ xs. in_turn act xs (map plan_step_mean before))) (λ ys. in_turn act ys (map plan_step_mean (s ∷ []))) =
+    ap (λ m. m frame trees) (plan_eq.plan-Path start (before ++ s ∷ []))
+    ∙ ap (λ ms. go_on o (λ xs. in_turn act xs ms)) (map-append plan_step_mean before (s ∷ []))
+    ∙ go_on_same o (λ xs. in_turn act xs (map plan_step_mean before ++ map plan_step_mean (s ∷ []))) (λ xs f. go_on (in_turn act xs (map plan_step_mean before) f) (λ ys. in_turn act ys (map plan_step_mean (s ∷ []))))
+    (λ xs f. in_turn-append act xs (map plan_step_mean before) (map plan_step_mean (s ∷ [])) f)
+    ∙ sym (go_on_go_on o (λ xs. in_turn act xs (map plan_step_mean before)) (λ ys. in_turn act ys (map plan_step_mean (s ∷ [])))) in
+    subst HasNodes (sym apart) (after_start frame s [] is tt (go_on o (λ xs. in_turn act xs (map plan_step_mean before))))
 
 pub path_held_at : (known : List Held) (p start : Plan) (steps : List PlanStep) → p ≡ plan.Path start steps →
-    AllByRecursion IsScan steps → 0 < length steps → IsHeld known Nodes p
-path_held_at known p start [] is all some = absurd (omega (arith, some))
-path_held_at known p start (s ∷ steps) is all some =
-    subst (IsHeld known Nodes) (sym is) (path_held known start s steps all)
+    EndsInScan steps → IsHeld known Nodes p
+path_held_at known p start steps is (before, s, cut, scan) =
+    subst (IsHeld known Nodes) (sym (is ∙ ap (plan.Path start) cut)) (path_held known start before s scan)
 
 -- # From slots
 

@@ -1,11 +1,11 @@
 //! What a part gives, as its form tells it (XQuery 3.1, section 2.2.3.1).
-ghost use Rattle.std.specs.Prelude.{◌≡◌, ◌<◌, ◌∷◌, [], Some, length, slice_get, true, false};
+ghost use Rattle.std.specs.Prelude.{◌≡◌, ◌∷◌, [], Some, slice_get, true, false};
 ghost use Rattle.std.specs.List.{AllByRecursion};
 ghost use Rattle.xq_atoms.specs.Text.{Text};
 ghost use Rattle.xq_meaning.specs.declared.plans.Plan.TheVariants as plan_of;
 ghost use Rattle.xq_optimise.specs.Scans.{IsNoPathOfScans};
 ghost use Rattle.xq_optimise.specs.declared.held.Held.TheVariants.{Nodes};
-ghost use Rattle.xq_optimise.specs.private.Parts.{IsHeld, IsScan};
+ghost use Rattle.xq_optimise.specs.private.Parts.{EndsInScan, IsHeld, IsScan};
 
 use crate::held::Held;
 use sqlite_items::at;
@@ -59,26 +59,36 @@ pub fn is_document_path(plan: &Plan) -> bool
     is_document(start.get()) && are_scans(steps.as_slice())
 }
 
-/// Whether a part is a slot of nodes, or ends in scans.
+/// Whether the step is a scan.
+fn is_scan(step: &PlanStep) -> bool
+    ensures { result ≡ true → IsScan step.now }
+{
+    match step {
+        PlanStep::Scan(_, _) => true,
+        _ => false,
+    }
+}
+
+/// Whether there are steps, and the last one is a scan.
+fn ends_in_scan(steps: &[PlanStep]) -> bool
+    ensures { result ≡ true → EndsInScan steps.now }
+{
+    let mut ends = false;
+    for step in steps {
+        ends = is_scan(step);
+    }
+    ends
+}
+
+/// Whether a part is a slot of nodes, or ends in a scan.
 fn gives_nodes(known: &[Held], plan: &Plan) -> bool
     ensures { result ≡ true → IsHeld known.now Nodes plan.now }
 {
     match plan {
         Plan::Slot(slot) => has_nodes(known, *slot),
-        Plan::Path(_, steps) => is_path_of_scans(steps.as_slice()),
+        Plan::Path(_, steps) => ends_in_scan(steps.as_slice()),
         _ => false,
     }
-}
-
-/// Whether there are steps, and all of them are scans.
-fn is_path_of_scans(steps: &[PlanStep]) -> bool
-    ensures scans { result ≡ true → AllByRecursion IsScan steps.now }
-    ensures some { result ≡ true → 0 < length steps.now }
-{
-    if steps.is_empty() {
-        return false;
-    }
-    are_scans(steps)
 }
 
 /// What the value of a part holds, where it has one.

@@ -80,6 +80,11 @@ IsHeld known held p =
 abbrev pub IsScan : PlanStep → Type 0
 IsScan s = (axis : Axis) × (test : Test) × (s ≡ step.Scan axis test)
 
+-- there are steps, and the last one is such a scan
+abbrev pub EndsInScan : List PlanStep → Type 0
+EndsInScan steps =
+    (before : List PlanStep) × (s : PlanStep) × (steps ≡ before ++ s ∷ []) × IsScan s
+
 -- a general comparison of two parts
 abbrev pub general_comparison : Relation → Plan → Plan → Plan
 general_comparison relation p q =

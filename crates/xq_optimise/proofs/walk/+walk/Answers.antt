@@ -1,4 +1,4 @@
-use Rattle.std.proofs.Common.{◌≡◌, ◌<◌, ◌+◌, ◌*◌, sym, ◌∙◌, subst, refl, arith}
+use Rattle.std.proofs.Common.{◌≡◌, ◌<◌, ◌+◌, ◌*◌, ◌++◌, List, ◌∷◌, [], map, length, take, sym, ap, ◌∙◌, subst, refl, arith, rules}
 use Rattle.xq_meaning.specs.declared.plans.Plan.TheVariants as plan
 use Rattle.xq_meaning.specs.declared.plans.PlanClause.TheVariants as clause
 use Rattle.xq_meaning.specs.declared.plans.PlanStep.TheVariants as step
@@ -7,15 +7,15 @@ use denote.Param.Weighed.{most}
 use Rattle.std.proofs.lemmas.Result.{IfOk-weaker}
 use Rattle.xq_optimise.specs.Same.{GivesSame}
 use Rattle.xq_optimise.specs.Sure.{SamePredicates}
-use Rattle.xq_optimise.specs.private.Parts.{SameOperand, SameCall, SameKey, SameStep, SameClauses, IsHeld, AddsTests}
+use Rattle.xq_optimise.specs.private.Parts.{AreAll, SameOperand, SameCall, SameKey, SameStep, SameClause, SameClauses, SameRanges, IsHeld, Extends, AddsTests}
 use Rattle.xq_optimise.proofs.Forms as forms
 use Rattle.xq_optimise.proofs.Forms.{gives_at, known_at, all_known_at, itself, step_itself, each_gives}
 use Rattle.xq_optimise.proofs.Flwor.{flwor_gives}
 use Rattle.xq_optimise.specs.private.Order.{SameTurns}
 use Rattle.xq_optimise.proofs.Rising.{flwor_sorted}
 use Rattle.xq_optimise.proofs.Splitting.{step_same_on}
-use Rattle.xq_optimise.proofs.Ranges.{quantified_gives}
-use Rattle.xq_optimise.proofs.Loops.{left_next, turned_size, range_next, clause_added, for_adds, let_adds, tests_add, order_adds, count_adds, group_adds, adds_at, ranges_left}
+use Rattle.xq_optimise.proofs.Ranges.{quantified_gives, held_of_same}
+use Rattle.xq_optimise.proofs.Loops.{left_none, left_next, left_done, left_size, turned_size, no_ranges, range_next, ranges_done, no_clauses, clause_added, clauses_done, for_adds, let_adds, tests_add, order_adds, count_adds, group_adds, refused_adds, adds_at, extends_bound, extends_itself, extends_more, scope_left, ranges_left}
 use Rattle.xq_optimise.proofs.walk.+walk.Goals as goal
 
 pub expression-returns-in_ok-expressions-in-Sequence-clause-same : goal.expression-returns-in_ok-expressions-in-Sequence-clause-same
