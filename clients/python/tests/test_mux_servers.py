@@ -193,6 +193,25 @@ class ReadsTest(ServersTest):
         time.sleep(0.3)
         self.assertEqual(other.ask(b"Q", b"2"), (DONE, b"2"))
 
+    def test_who_goes_while_all_servers_are_held_takes_nobodys_place(self) -> None:
+        mux = self.mux("--clients", "12")
+        held = [self.client(mux) for _ in range(SERVERS)]
+        for connection in held:
+            connection.send(b"Q", ENDLESS)
+        time.sleep(0.3)
+        for _ in range(5):
+            goes = [mux.connect() for _ in range(8)]
+            for connection in goes:
+                connection.send(b"Q", b"1")
+                connection.send(b"Q", b"2")
+            for connection in goes:
+                connection.socket.close()
+            time.sleep(1)
+        self.assertNotIn("turned away", mux.said())
+        for connection in held:
+            connection.socket.close()
+        self.assertEqual(self.client(mux).ask(b"Q", b"3"), (DONE, b"3"))
+
     def test_a_read_behind_a_store_of_its_client_sees_it(self) -> None:
         connection = self.client(self.mux())
         for number in range(60):

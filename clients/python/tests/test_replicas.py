@@ -155,6 +155,9 @@ class Writer:
     def close(self) -> None:
         self.is_closed = True
 
+    def is_closing(self) -> bool:
+        return self.is_closed
+
     async def wait_closed(self) -> None:
         pass
 

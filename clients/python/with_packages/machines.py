@@ -45,9 +45,11 @@ set -eu
 quiet='+S 2:2 +sbwt none +sbwtdcpu none +sbwtdio none'
 start_broker() {
     cd /var/lib/rabbitmq
-    runuser -u rabbitmq -- env -i PATH=/usr/sbin:/usr/bin:/sbin:/bin HOME=/var/lib/rabbitmq \\
+    # (not runuser: where the broker is stopped, that stops itself too, and is not sent on with it)
+    setsid setpriv --reuid=rabbitmq --regid=rabbitmq --init-groups \\
+        env -i PATH=/usr/sbin:/usr/bin:/sbin:/bin HOME=/var/lib/rabbitmq \\
         LANG=C.UTF-8 RABBITMQ_ALLOW_INPUT=1 RABBITMQ_SERVER_START_ARGS=-noinput \\
-        RABBITMQ_SERVER_ADDITIONAL_ERL_ARGS="$quiet" setsid /usr/lib/rabbitmq/bin/rabbitmq-server \\
+        RABBITMQ_SERVER_ADDITIONAL_ERL_ARGS="$quiet" /usr/lib/rabbitmq/bin/rabbitmq-server \\
         >>/var/log/rabbitmq/out 2>&1 </dev/null &
     for _ in $(seq 300); do
         sleep 1
@@ -99,7 +101,7 @@ def missing() -> str:
     """What keeps machines from being made; empty where nothing does."""
     if os.geteuid():
         return "machines of their own want root"
-    wanted = [it for it in ("ip", "unshare", "nsenter", "runuser") if not shutil.which(it)]
+    wanted = [it for it in ("ip", "unshare", "nsenter", "setpriv") if not shutil.which(it)]
     return f"there is no {wanted[0]}" if wanted else ""
 
 

@@ -1,6 +1,7 @@
 """Three brokers and three nodes on three machines, which are killed, stopped, parted and filled.
 
-`XQS_TORTURE_SECONDS` says how long it lasts; it is to be 600 before a release. It wants root.
+`XQS_TORTURE_SECONDS` says how long it lasts; it is to be 600 before a release. With
+`XQS_TORTURE_FAULTS`, as `part stop_broker`, there are these alone. It wants root.
 """
 
 import asyncio
@@ -38,6 +39,7 @@ from run_cluster_page import blocks, carry, own  # noqa: E402
 
 SECONDS = float(os.environ.get("XQS_TORTURE_SECONDS", "120"))
 SEED = int(os.environ.get("XQS_SEED", "85"))
+FAULTS = os.environ.get("XQS_TORTURE_FAULTS", "").split()
 WITHOUT_PROGRESS = 20.0
 """Seconds for which a node may be without progress once its brokers are back."""
 GIVEN_UP = 120.0
@@ -174,6 +176,8 @@ class Torture(unittest.IsolatedAsyncioTestCase):
             self.end_node, self.fill_disk, self.kill_server, self.stop_broker, self.stop_server,
             self.store_greedily]
         names = self.machines.names
+        if FAULTS:
+            faults = [it for it in faults if it.__name__ in FAULTS]
         for number, fault in enumerate(faults):
             yield fault, names[number % 3]
         while True:
@@ -216,14 +220,17 @@ class Torture(unittest.IsolatedAsyncioTestCase):
         self.signal_broker(name, signal.SIGSTOP)
         await asyncio.sleep(self.chance.uniform(4.0, 14.0))
         self.signal_broker(name, signal.SIGCONT)
+        stopped = "ps axo pid,stat,comm | awk '$2 ~ /^T/'"
+        await self.at(name, f'sleep 0.2; found=$({stopped}); echo "$found"; [ -z "$found" ]')
         await self.at(name, "rabbitmqctl --timeout 300 await_startup")
 
     async def part(self, name: str) -> None:
         self.machines.part(name)
         await asyncio.sleep(self.chance.uniform(8.0, 25.0))
         self.machines.join(name)
-        await self.at(name, "for _ in $(seq 60); do rabbitmqctl --timeout 300 await_startup && "
-                            "exit; sleep 1; done; exit 1")
+        await self.at(name, "for _ in $(seq 15); do rabbitmqctl --timeout 20 await_startup && "
+                            "exit; sleep 1; done; ps axo pid,stat,wchan:20,etimes,args; "
+                            "tail -n 40 /var/log/rabbitmq/out; exit 1")
 
     async def fill_disk(self, name: str) -> None:
         await self.at(name, "cd /var/lib/rabbitmq; free=$(df --output=avail -m . | tail -n 1); "

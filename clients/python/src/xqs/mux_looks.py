@@ -67,6 +67,7 @@ class Looks:
         while True:
             await asyncio.sleep(LOOK)
             self._look_at_memory()
+            self._replicas.forget_gone()
             self._end_for_nobody()
             self._end_stopped()
             self._refuse_late()

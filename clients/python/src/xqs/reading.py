@@ -128,12 +128,27 @@ class Reading:
     def refuse_waiting(self, reply: bytes) -> None:
         """Gives all reads that wait this reply, since no server will take them."""
         while self.waiting:
-            turn = self.waiting.popleft()
-            if turn.given is None:
-                settled(turn.request)
-            elif not turn.given.done():
-                turn.given.set_result(None)
-            give(turn.request, reply)
+            self._take_out(self.waiting.popleft(), reply)
+
+    def forget_gone(self) -> None:
+        """Ends the connections of clients that have gone while their reads waited, so that these
+        take no server's time, and the connections no other client's place."""
+        for turn in list(self.waiting):
+            peer = turn.request.peer
+            if peer is not None and not peer.gone and peer.has_gone():
+                peer.cut()
+            if peer is None or peer.gone:
+                self.waiting.remove(turn)
+                self._take_out(turn, WANTING_STORE)
+
+    @staticmethod
+    def _take_out(turn: Turn, reply: bytes) -> None:
+        """Gives a read that waited this reply."""
+        if turn.given is None:
+            settled(turn.request)
+        elif not turn.given.done():
+            turn.given.set_result(None)
+        give(turn.request, reply)
 
     def _is_any_free(self) -> bool:
         return any(self._has_room(it) and self.is_open(it) for it in self.ready())

@@ -75,6 +75,7 @@ async def watch_held(node: "Node") -> None:
     longest, stopped = node.options.seconds, Stopped()
     while True:
         await asyncio.sleep(min(HELD, longest / 4))
+        node.reads.forget_gone()
         for replica in stopped.look(it.replica for it in node.followers):
             replica.kill("its process was stopped")
         for follower in node.followers:
