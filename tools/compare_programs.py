@@ -23,7 +23,10 @@ AXES = ("//", "//", "/", "/descendant::", "/descendant-or-self::", "/ancestor::"
 PREDICATES = ("", "", "[1]", "[2]", "[last()]", "[position() <= 2]", "[position() > 3]",
               "[position() = last()]", "[position() != 2]", "[position() >= 2]", '[@id = "1"]',
               "[last()][{0}]", "[last()][2]", "[{0}]", '[{0} = "x"]', "[.//{0}]",
-              "[count(.//{0}) > 1]")
+              "[count(.//{0}) > 1]", "[position() eq 2]", "[3 > position()]", "[2 le position()]",
+              "[position() = 2 and {0}]", "[{0} and position() != 1]", '[@id = "1" and {0}]',
+              "[position() >= 2 and position() <= 4]", '[@id = "2"][{0} = "x"]', '["3" != @id]',
+              '[. = "x"]', '[@id < "3" and 2 < position()]', "[@id = 1]", '[@id = "1"][2]')
 QUERIES = (
     "{path}", "{path}", "{path}", "count({path})", "({path})[{number}]//{name}",
     "for $x in {path} return count($x//{name})",
@@ -50,6 +53,12 @@ QUERIES = (
     "let $k := {path} return some $x in {path} satisfies $x/@id = $k/@id",
     'let $k := {path} return every $x in doc("d")//{name} satisfies $x/{other} = $k/{other}',
     'some $y in {path}, $x in doc("d")//{other} satisfies $y/@id = $x/@id',
+    "for $x in {path}, $y in {path} let $z := $y/{name} where $y/@id = $x/@id return count($z)",
+    "for $x in {path}, $y in {path} where $y/{name} where $x/@id = $y/@id return string($y)",
+    'for $x in {path}, $y in {path} let $z := $x/@k + 1 where $y/@id = $x/@id return $z',
+    "for $x in {path} let $y := {path} where $x/@id = $y/@id and $x/{name} return count($y)",
+    'for $x in {path} let $k := $x/@id return count({path}/{other}[@id = $k])',
+    '({path})[position() ge 2 and position() lt {number}]/{name}[. = "x" and @id]',
     "for $x in {path} return (count($x/{name}) * 2 + 1) div {number} || concat($x/@id, 1, 'z')",
     "element {{concat('q', {number})}} {{attribute {{'a'}} {{{number}, 'x'}}, {path}/string()}}",
     "for $x in 1 to {number}, $y in 2 return ($x * $y - 3 idiv $x + 1.5, {path}[$y])",
