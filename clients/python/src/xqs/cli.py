@@ -87,9 +87,12 @@ def checkout_server() -> Path | None:
     return serve if serve.exists() else None
 
 
-def connection_options(bounded: bool = True, file: bool = True) -> argparse.ArgumentParser:
+def connection_options(
+    bounded: bool = True, file: bool = True, kept: bool = True
+) -> argparse.ArgumentParser:
     """The options that say where the server is, as a parent of a command's parser; with the bounds
-    of a request and the file of the documents, unless the command has its own."""
+    of a request, the file of the documents, and how much one server keeps, unless the command has
+    its own."""
     options = argparse.ArgumentParser(add_help=False)
     group = options.add_argument_group("the server")
     group.add_argument(
@@ -104,11 +107,13 @@ def connection_options(bounded: bool = True, file: bool = True) -> argparse.Argu
             "--file", metavar="PATH", help="the file of the documents, which is asked for where "
             "`xqs serve` serves it, or else with the command that is started"
         )
-    group.add_argument(
-        "--kept", metavar="MB", type=_megabytes, help="how much a server that is started keeps of "
-        "what queries read, from 1 to 1,048,576; ./serve takes a sixteenth of the free memory "
-        "otherwise, at least 128"
-    )
+    options.set_defaults(kept_by_one=None)
+    if kept:
+        group.add_argument(
+            "--kept", metavar="MB", type=_megabytes, dest="kept_by_one",
+            help="how much a server that is started keeps of what queries read, from 1 to "
+            "1,048,576; ./serve takes a sixteenth of the free memory otherwise, at least 128"
+        )
     if bounded:
         bounds.add_options(options)
     return options
@@ -133,12 +138,9 @@ def server_of(given: argparse.Namespace) -> Endpoint:
     place = endpoint(where)
     if given.file:
         place = _with_words(place, "--file", given.file)
-    return with_kept(place, given.kept)
-
-
-def with_kept(place: Endpoint, megabytes: int | None) -> Endpoint:
-    """The command of a server that keeps so much; ValueError for one that runs already."""
-    return place if megabytes is None else _with_words(place, "--kept", str(megabytes))
+    if given.kept_by_one is not None:
+        place = _with_words(place, "--kept", str(given.kept_by_one))
+    return place
 
 
 def _with_words(place: Endpoint, option: str, value: str) -> Endpoint:

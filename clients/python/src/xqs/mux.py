@@ -12,7 +12,7 @@ from contextlib import AsyncExitStack, asynccontextmanager
 
 from xqs import control, listening
 from xqs.bounds import bounds_of
-from xqs.cli import connection_options, server_of, with_kept
+from xqs.cli import connection_options, server_of
 from xqs.endpoints import Command
 from xqs.listening import notify
 from xqs.metrics_http import MetricsServer
@@ -239,7 +239,7 @@ def command_of(words: Sequence[str], given: argparse.Namespace) -> Sequence[str]
 
     ValueError where that is no command.
     """
-    place = with_kept(Command(tuple(words)), given.kept) if words else server_of(given)
+    place = Command(tuple(words)) if words else server_of(given)
     if not isinstance(place, Command):
         raise ValueError(f"one server is started here, and {place} is no command, {EXAMPLE}")
     return place.words
@@ -253,7 +253,8 @@ def main(words: Sequence[str] | None = None) -> int:
     """
     before, after = split_command(sys.argv[1:] if words is None else words)
     parser = argparse.ArgumentParser(
-        prog="xqs mux", usage=USAGE, description=__doc__, parents=[connection_options()]
+        prog="xqs mux", usage=USAGE, description=__doc__,
+        parents=[connection_options(kept=False)],
     )
     parser.add_argument("place", metavar="unix:PATH|tcp:PORT|systemd:",
                         help="where clients connect; systemd: is the socket that systemd gives")

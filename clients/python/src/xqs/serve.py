@@ -67,7 +67,7 @@ def main(words: Sequence[str]) -> int:
 
 def _parser() -> argparse.ArgumentParser:
     parser = argparse.ArgumentParser(
-        prog="xqs serve", usage=USAGE, parents=[connection_options(file=False)],
+        prog="xqs serve", usage=USAGE, parents=[connection_options(file=False, kept=False)],
         description="Serves a file in the background, by a socket beside it (FILE.sock): each "
         "command with --file FILE then asks there, and opens nothing anew. `xqs stop FILE` ends "
         "it.")

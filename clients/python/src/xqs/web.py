@@ -132,7 +132,8 @@ def origin_of(word: str) -> str:
 def parser() -> argparse.ArgumentParser:
     """The words of the command."""
     result = argparse.ArgumentParser(
-        prog="xqs web", usage=USAGE, description=__doc__, parents=[connection_options()]
+        prog="xqs web", usage=USAGE, description=__doc__,
+        parents=[connection_options(kept=False)]
     )
     option = result.add_argument
     option("--listen", metavar="[HOST:]PORT", default="127.0.0.1:8984",

@@ -182,7 +182,7 @@ def main(words: Sequence[str]) -> int:
 
 def _parser() -> argparse.ArgumentParser:
     parser = argparse.ArgumentParser(
-        prog="xqs node", usage=USAGE, parents=[connection_options(bounded=False)],
+        prog="xqs node", usage=USAGE, parents=[connection_options(bounded=False, kept=False)],
         description="Serves clients by servers that follow a replicated log of stores and drops: "
         "all nodes of one log answer alike. docs/CLUSTER.md says how one is set up.")
     option = parser.add_argument
