@@ -18,26 +18,26 @@ use std::alloc::{AllocError, Global};
 use xq_meaning::{Plan, PlanStep, Test};
 use xq_trees::Axis;
 
-/// Whether the predicate compares texts of the node in focus.
-fn is_text_test(known: &[Held], plan: &Plan) -> bool
-    ensures { result ≡ true → SurelyKeeps known.now plan.now }
-{
-    if as_comparison(plan).is_none() {
-        return false;
-    }
-    is_item_test(known, plan)
-}
-
-/// Whether each predicate does.
-fn are_text_tests(known: &[Held], predicates: &[Plan]) -> bool
+/// Whether each predicate asks the node in focus alone, and can't be refused.
+fn are_item_tests(known: &[Held], predicates: &[Plan]) -> bool
     ensures { result ≡ true → AllByRecursion (SurelyKeeps known.now) predicates.now }
 {
     for predicate in predicates {
-        if !is_text_test(known, predicate) {
+        if !is_item_test(known, predicate) {
             return false;
         }
     }
     true
+}
+
+/// Whether one of the predicates compares.
+fn have_comparison(predicates: &[Plan]) -> bool {
+    for predicate in predicates {
+        if as_comparison(predicate).is_some() {
+            return true;
+        }
+    }
+    false
 }
 
 /// Whether the last of the steps is `descendant-or-self::node()`, for which `//` stands.
@@ -55,15 +55,16 @@ struct Taken {
     steps: Items<PlanStep>,
 }
 
-/// Whether some predicates of a step are judged over all that the step finds. After `//` evaluation
-/// looks for what passes one predicate at once, so that such a step stays.
+/// Whether the predicates of a step are judged over all that the step finds: one of them compares
+/// texts, which the values that are kept may serve. After `//` evaluation looks for what passes one
+/// predicate at once, so that such a step stays.
 fn is_judged_at_once(known: &[Held], before: &[PlanStep], predicates: &[Plan]) -> bool
     ensures { result ≡ true → AllByRecursion (SurelyKeeps known.now) predicates.now }
 {
-    if predicates.is_empty() || (predicates.len() == 1 && ends_in_double_slash(before)) {
+    if !have_comparison(predicates) || (predicates.len() == 1 && ends_in_double_slash(before)) {
         return false;
     }
-    are_text_tests(known, predicates)
+    are_item_tests(known, predicates)
 }
 
 /// The path with a scan more, of whose nodes the predicates keep some.
