@@ -16,7 +16,8 @@ from collections.abc import Iterable, Iterator
 # The function where the program starts, which the linker looks for.
 START = "main"
 # So many lines of a module's text, before anything is optimized, are a small function. With 60 a
-# program took up to twice the time of one that is compiled as one module; with 400 as much.
+# program took up to twice the time of one that is compiled as one module; with 400 as much, and a
+# fifth more for constructors.
 SMALL = 400
 NAME = re.compile(r'@("[^"]+"|[\w.$-]+)')
 # The crate at the head of a function's name, as in `"xq_eval::paths::step"`.
