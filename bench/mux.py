@@ -13,7 +13,8 @@ the multiplexer itself costs.
 - lookups: the median time of a lookup beside a client that asks queries of five seconds one after
   the other, and without it, with 3 servers
 - restart: the longest time of a read, while the server with the file is killed and opened again
-  over so many rows (2,000,000), and while one in memory is killed and filled again
+  over so many rows (2,000,000), and while one in memory is killed and filled again; without the
+  time in which the host of a virtual machine had the processors
 - stores: stores a second in a file, of four clients, with 3 servers and with 1
 """
 
@@ -33,6 +34,8 @@ from collections.abc import Callable, Iterator
 from contextlib import contextmanager
 
 TOP = pathlib.Path(__file__).resolve().parent.parent
+Span = tuple[float, float]
+"""When something began and ended, by the clock that all processes share."""
 SERVERS = 3
 SECONDS = 4.0
 """How long each rate is measured."""
@@ -247,43 +250,84 @@ def median_lookup(client: Connection) -> float:
 
 
 class Reader(threading.Thread):
-    """Asks lookups one after the other, and keeps the longest time of one."""
+    """Asks lookups one after the other, and keeps when each began and ended."""
 
     def __init__(self, mux: Mux) -> None:
         super().__init__(daemon=True)
         self._client = mux.connect()
         self.is_ended = False
-        self.times: list[float] = []
+        self.spans: list[Span] = []
 
     def run(self) -> None:
         while not self.is_ended:
-            begin = time.perf_counter()
+            begin = time.monotonic()
             self._client.ask(b"Q", LOOKUP)
-            self.times.append(time.perf_counter() - begin)
+            self.spans.append((begin, time.monotonic()))
             time.sleep(0.001)
 
-    def end(self) -> tuple[float, float]:
-        """The longest time, and the median."""
+    def end(self) -> list[Span]:
+        """When the lookups began and ended."""
         self.is_ended = True
         self.join()
-        return max(self.times), statistics.median(self.times)
+        return self.spans
 
 
-class Lag:
-    """How late this machine wakes a program that sleeps for a millisecond, at the worst."""
+class Stalls:
+    """When the machine did not run a program that was due, on any of its processors.
 
-    LOOP = ("import select, sys, time\nworst = 0.0\n"
-            "while not select.select([sys.stdin], [], [], 0)[0]:\n"
-            "    begin = time.perf_counter()\n    time.sleep(0.001)\n"
-            "    worst = max(worst, time.perf_counter() - begin)\nprint(worst)\n")
+    On each processor a program sleeps for a millisecond again and again, at a priority above all
+    others (which root alone may have). Only the host of a virtual machine holds it up: where it
+    gives a processor to another machine, no server can answer.
+    """
+
+    LOOP = """
+import os, select, sys, time
+os.sched_setaffinity(0, {int(sys.argv[1])})
+try:
+    os.sched_setscheduler(0, os.SCHED_FIFO, os.sched_param(50))
+except PermissionError:
+    sys.exit()
+while not select.select([sys.stdin], [], [], 0)[0]:
+    begin = time.monotonic()
+    time.sleep(0.001)
+    end = time.monotonic()
+    if end - begin > 0.003:
+        print(begin + 0.001, end)
+"""
 
     def __init__(self) -> None:
-        self._process = subprocess.Popen([sys.executable, "-c", self.LOOP], stdin=-1, stdout=-1,
-                                         text=True)
+        self._begin = time.monotonic()
+        self._sleepers = [
+            subprocess.Popen([sys.executable, "-c", self.LOOP, f"{it}"], stdin=-1, stdout=-1,
+                             text=True)
+            for it in os.sched_getaffinity(0)]
 
-    def end(self) -> float:
-        """The longest time of such a sleep, in seconds."""
-        return float(self._process.communicate()[0])
+    def end(self) -> "Stalled":
+        """What was seen until now."""
+        spans = [tuple(map(float, line.split()))
+                 for it in self._sleepers for line in it.communicate()[0].splitlines()]
+        return Stalled([(begin, end) for begin, end in spans], time.monotonic() - self._begin)
+
+
+class Stalled:
+    """The spans of time in which the machine stood still, each moment once."""
+
+    def __init__(self, spans: list[Span], seconds: float) -> None:
+        self.spans: list[Span] = []
+        self._seconds = seconds
+        for begin, end in sorted(spans):
+            if self.spans and begin <= self.spans[-1][1]:
+                self.spans[-1] = (self.spans[-1][0], max(end, self.spans[-1][1]))
+            else:
+                self.spans.append((begin, end))
+
+    def within(self, span: Span) -> float:
+        """Seconds of this span in which the machine stood still."""
+        return sum(max(0.0, min(end, span[1]) - max(begin, span[0])) for begin, end in self.spans)
+
+    def share(self) -> float:
+        """The part of the time in which it did, from 0 to 1."""
+        return sum(end - begin for begin, end in self.spans) / self._seconds
 
 
 def measure_restart(command: list[str], runs: int, rows: int) -> bool:
@@ -303,10 +347,10 @@ RESTARTS: list[tuple[bool | None, str]] = [
 
 def pause(mux: Mux, has_file: bool | None, what: str) -> bool:
     """Prints the longest pause of a read beside one restart, or beside none; whether it is short,
-    where there is a restart."""
+    where there is a restart. The time in which the machine stood still is no server's."""
     words = "has its file open again" if has_file else "holds the documents"
     before = mux.said().count(words)
-    reader, lag, begin = Reader(mux), Lag(), time.perf_counter()
+    reader, stalls, begin = Reader(mux), Stalls(), time.monotonic()
     reader.start()
     time.sleep(1)
     if has_file is None:
@@ -314,12 +358,15 @@ def pause(mux: Mux, has_file: bool | None, what: str) -> bool:
     else:
         os.kill(mux.server(has_file), signal.SIGKILL)
         mux.wait_for(words, before + 1)
-    took = time.perf_counter() - begin - 1
-    longest, median = reader.end()
-    print(f"| {what}: longest read in {took:.1f} s | {1000 * longest:,.1f} ms, median "
-          f"{1000 * median:,.2f}; a sleep of 1 ms took up to {1000 * lag.end():,.1f} | | "
-          f"{'' if has_file is None else f'under {PAUSE}'} |", flush=True)
-    return has_file is None or 1000 * longest < PAUSE
+    took = time.monotonic() - begin - 1
+    spans, stalled = reader.end(), stalls.end()
+    whole = 1000 * max(end - begin for begin, end in spans)
+    own = 1000 * max(end - begin - stalled.within((begin, end)) for begin, end in spans)
+    median = 1000 * statistics.median(end - begin for begin, end in spans)
+    print(f"| {what}: longest read in {took:.1f} s | {whole:,.1f} ms, {own:,.1f} of it while the "
+          f"machine ran, median {median:,.2f}; it stood still for {100 * stalled.share():.0f} % | |"
+          f" {'' if has_file is None else f'under {PAUSE}'} |", flush=True)
+    return has_file is None or own < PAUSE
 
 
 def measure_stores(command: list[str], runs: int, rows: int) -> bool:
