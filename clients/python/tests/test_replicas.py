@@ -18,7 +18,7 @@ from xqs.mux_clients import Settings
 from xqs.mux_many import ManyServers
 from xqs.mux_peer import Peer, Request
 from xqs.protocol import Splitter
-from xqs.replica import Replica, State, address_of
+from xqs.replica import GATHERED, IN_PIPE, Copy, Replica, State, address_of
 
 DONE, REFUSED, WANTING = 0, 1, 2
 ROUNDS = int(os.environ.get("XQS_ROUNDS", "12"))
@@ -62,9 +62,9 @@ class PlayedServer:
             await asyncio.sleep(0)
         return cls("--file" in command, on_reply)
 
-    def put(self, request: Request) -> None:
-        self.in_flight.append(request)
-        self.frames += 1
+    def put(self, *requests: Request) -> None:
+        self.in_flight.extend(requests)
+        self.frames += len(requests)
         self._wake.set()
 
     async def _work(self) -> None:
@@ -252,6 +252,40 @@ class PlayedClient:
         self._model.reads += 1
         self._last = values
         self._model.least = [max(pair) for pair in zip(values, self._model.least, strict=True)]
+
+
+class LineTest(unittest.IsolatedAsyncioTestCase):
+    """What is sent together of a server's line."""
+
+    def setUp(self) -> None:
+        self.sent: list[list[bytes]] = []
+        self.replica = Replica(2, lambda replica, request, reply: None)
+        backend = mock.Mock(in_flight=collections.deque())
+        backend.put.side_effect = lambda *requests: self.sent.append(
+            [request.payload for request in requests])
+        self.replica._backend = backend
+
+    def put(self, *payloads: bytes) -> None:
+        """Puts copies of writes into the line."""
+        for payload in payloads:
+            self.replica.put(Copy(None, 0, payload))
+
+    async def test_copies_go_together(self) -> None:
+        self.put(b"Da", b"Db")
+        self.assertEqual(self.sent, [])
+        await asyncio.sleep(5 * GATHERED)
+        self.assertEqual(self.sent, [[b"Da", b"Db"]])
+
+    async def test_a_read_takes_the_copies_before_it_along(self) -> None:
+        self.put(b"Da", b"Db")
+        self.replica.put(Request(None, 0, READ))
+        self.assertEqual(self.sent, [[b"Da", b"Db", READ]])
+        await asyncio.sleep(5 * GATHERED)
+        self.assertEqual(len(self.sent), 1)
+
+    async def test_a_line_that_is_full_does_not_wait(self) -> None:
+        self.put(*[b"Da"] * IN_PIPE)
+        self.assertEqual(self.sent, [[b"Da"] * IN_PIPE])
 
 
 class ReplicasTest(unittest.TestCase):

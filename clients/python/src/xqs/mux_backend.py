@@ -120,19 +120,24 @@ class Backend:
         with contextlib.suppress(OSError):
             await self.process.stdin.drain()
 
-    def put(self, request: Request) -> None:
-        """Sends a request without a wait: what the pipe doesn't take stands in memory."""
-        self.in_flight.append(request)
-        self.frames += 1
-        if len(self.in_flight) == 1:
-            self._watch_front()
+    def put(self, *requests: Request) -> None:
+        """Sends requests without a wait: what the pipe doesn't take stands in memory."""
         pipe = self.process.stdin
         assert pipe is not None
-        message = protocol.with_tag(bytes(4) + request.payload, self.frames)
+        is_first = not self.in_flight
+        frames = bytearray()
+        for request in requests:
+            self.frames += 1
+            message = protocol.with_tag(bytes(4) + request.payload, self.frames)
+            frames += protocol.framed(message)
+            request.unsent = False
+        self.in_flight.extend(requests)
+        if is_first:
+            self._watch_front()
         # (asyncio says so on standard error where a closed pipe is written to again and again)
         if not pipe.is_closing():
-            pipe.write(protocol.framed(message))
-        request.unsent = len(self.in_flight) == 1 and pipe.is_closing()
+            pipe.write(frames)
+        requests[0].unsent = is_first and pipe.is_closing()
 
     async def _read(self) -> None:
         assert self.process.stdout is not None
@@ -171,18 +176,22 @@ class Backend:
             self._on_reply(request, message[4:])
 
     def _watch_front(self) -> None:
-        if self._alarm:
-            self._alarm.cancel()
-            self._alarm = None
         self._front_since = time.monotonic()
-        if self._seconds is not None and self.in_flight:
-            front = self.in_flight[0]
-            loop = asyncio.get_running_loop()
-            self._alarm = loop.call_later(self._seconds, self._too_slow, front)
+        if self._seconds is not None and self._alarm is None and self.in_flight:
+            self._alarm = asyncio.get_running_loop().call_later(self._seconds, self._look)
 
-    def _too_slow(self, request: Request) -> None:
-        self.overdue = request
-        self.kill()
+    def _look(self) -> None:
+        """Ends the server where it is at one request for too long; else looks again when it may
+        be. (One alarm for each request would cost as much as sending it.)"""
+        self._alarm = None
+        if self._seconds is None or not self.in_flight:
+            return
+        left = self._seconds - self.worked()
+        if left > 0:
+            self._alarm = asyncio.get_running_loop().call_later(left, self._look)
+        else:
+            self.overdue = self.in_flight[0]
+            self.kill()
 
     def worked(self) -> float:
         """For how many seconds the server has been at the first request in flight."""

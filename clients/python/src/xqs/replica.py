@@ -21,6 +21,8 @@ BETWEEN_LOOKS = 0.01
 """Seconds between two looks whether a line is empty."""
 IN_PIPE = 8
 """So many requests of a line are sent ahead; the others wait here."""
+GATHERED = 0.002
+"""A write that another server has carried out waits so many seconds for others to go with it."""
 
 
 class State(Enum):
@@ -95,6 +97,7 @@ class Replica:
         self._on_reply = on_reply
         self._slow = 0
         self._backend: Backend | None = None
+        self._later: asyncio.TimerHandle | None = None
 
     @property
     def name(self) -> str:
@@ -150,21 +153,28 @@ class Replica:
         self._pump()
 
     def put(self, request: Request) -> None:
-        """Puts a request at the end of the line."""
+        """Puts a request at the end of the line, which is sent on: at once, or, where copies of
+        writes are all that it has, together with those that come next."""
         self.line.append(request)
         self.line_bytes += len(request.payload)
         self._slow += isinstance(request, Copy) and request.took > HELD
         if self.watchers and request.changes() and (address := address_of(request.payload)):
             for watcher in self.watchers:
                 watcher.changed(address)
-        self._pump()
+        if not isinstance(request, Copy) or len(self.line) >= IN_PIPE:
+            self._pump()
+        elif self._later is None:
+            self._later = asyncio.get_running_loop().call_later(GATHERED, self._pump)
 
     def _pump(self) -> None:
-        backend = self.backend
-        while self.line and len(backend.in_flight) < IN_PIPE:
-            request = self.line.popleft()
-            self.line_bytes -= len(request.payload)
-            backend.put(request)
+        if self._later is not None:
+            self._later.cancel()
+            self._later = None
+        room = IN_PIPE - len(self.backend.in_flight)
+        sent = [self.line.popleft() for _ in range(min(room, len(self.line)))]
+        if sent:
+            self.line_bytes -= sum(len(request.payload) for request in sent)
+            self.backend.put(*sent)
 
     async def ask(self, payload: bytes) -> bytes:
         """The status and text of the reply to a request of this program. Raises ServerEnded."""
