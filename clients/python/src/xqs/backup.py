@@ -1,7 +1,7 @@
 """`xqs backup` and `xqs restore`: all documents as constructors in one file, and back.
 
-The file is text in UTF-8. Its first line names the form; then each document has a line `document
-BYTES SHA256 ADDRESS`, its constructor of so many bytes, and a line feed; the last line is `end
+The file is text in UTF-8. The first line names the format. Then each document has a line `document
+BYTES SHA256 ADDRESS`, its constructor of BYTES bytes, and a line feed. The last line is `end
 COUNT`. The digest is that of the constructor as the server prints it.
 """
 
@@ -29,13 +29,13 @@ _PIECE = 1 << 20
 
 
 class NoBackup(XqError, ValueError):
-    """A file that is no whole backup, or one that was changed."""
+    """A file that is not a whole backup, or was changed."""
 
 
 @dataclass(frozen=True)
 class Entry:
-    """A document of a backup: its address, the digest of its constructor, and where that stands in
-    the file, in bytes."""
+    """A document of a backup: its address, the digest of its constructor, and the constructor's
+    place and length in the file, in bytes."""
 
     address: str
     digest: str
@@ -47,8 +47,8 @@ def digest_of(
     client: Client, address: str, is_still: bool = False,
     read: Callable[[int], object] = lambda _: None
 ) -> str:
-    """The digest of a document, whatever its length; `is_still` as for `back_up`. `read` is told
-    how many bytes have been read."""
+    """The digest of a document of any length; `is_still` as in `back_up`. `read` is called with the
+    number of bytes read so far."""
     digest, count = hashlib.sha256(), 0
 
     def write(text: str) -> None:
@@ -65,10 +65,10 @@ def digest_of(
 def back_up(
     client: Client, file: BinaryIO, is_still: bool = False, progress: Progress | None = None
 ) -> int:
-    """Writes all documents but temporary ones; how many.
+    """Writes all documents except temporary ones. Returns their number.
 
-    With `is_still` nobody stores or drops meanwhile: then temporary ones are written too, and none
-    is copied to be read.
+    `is_still` says that nobody stores or drops meanwhile. Then temporary documents are written too,
+    and no document is copied in order to read it.
     """
     file.write(FORM)
     addresses = _addresses(client, is_still)
@@ -111,7 +111,7 @@ def _copy(source: IO[bytes], target: BinaryIO) -> None:
 
 
 def entries(file: BinaryIO) -> Iterator[Entry]:
-    """The documents of a backup, each judged by its digest; NoBackup."""
+    """The documents of a backup, each checked by its digest. Raises NoBackup."""
     if file.readline() != FORM:
         raise NoBackup("the file is no backup of this form")
     count = 0
@@ -146,10 +146,10 @@ def _digest(file: BinaryIO, size: int) -> str:
 def restore(
     client: Client, file: BinaryIO, replace: bool, progress: Progress | None = None
 ) -> int:
-    """Stores the documents of a backup, and reads each back; how many.
+    """Stores the documents of a backup and reads each one back. Returns their number.
 
-    The whole file is judged before the first document is stored. NoBackup; ValueError where an
-    address has a document already, unless these are replaced; Refused and Wanting of the server.
+    The whole file is checked before the first document is stored. Raises NoBackup; ValueError if an
+    address has a document already and documents may not be replaced; Refused and Wanting.
     """
     wanted = list(entries(file))
     there = set(client.list())
@@ -168,7 +168,7 @@ def restore(
 
 
 def _restore_entry(client: Client, file: BinaryIO, entry: Entry, progress: Progress) -> None:
-    """Stores a document, and reads it back. NoBackup."""
+    """Stores a document and reads it back. Raises NoBackup."""
     file.seek(entry.start)
     store_again(client, entry.address, file.read(entry.size).decode(), progress)
     digest = digest_of(client, entry.address, read=lambda it: progress.reach(entry.size + it))
@@ -179,8 +179,7 @@ def _restore_entry(client: Client, file: BinaryIO, entry: Entry, progress: Progr
 def check_against(
     client: Client, file: BinaryIO, is_still: bool = False, progress: Progress | None = None
 ) -> list[str]:
-    """The addresses whose documents are no more as the backup has them; `is_still` as for
-    `back_up`."""
+    """The addresses whose documents now differ from the backup; `is_still` as in `back_up`."""
     held = {it.address: it for it in entries(file)}
     now = set(_addresses(client, is_still))
     progress = progress or silent()
@@ -225,8 +224,9 @@ def main(words: Sequence[str]) -> int:
 
 
 def _pass_state(file: BinaryIO) -> None:
-    """Leaves a file that is a node's snapshot at its backup, and another one at its beginning."""
-    # (here, since snapshots stand on backups)
+    """Skips the head of a node's snapshot, so that the file stands at its backup; leaves any other
+    file at its beginning."""
+    # (here, since snapshots build on backups)
     from xqs.cluster import snapshots
 
     if file.readline() == snapshots.FORM:

@@ -1,4 +1,4 @@
-"""The command `xqs`: a table of its commands, each a module that is imported when it is called."""
+"""The command `xqs`: a table of its commands, each in a module that is imported on demand."""
 
 import argparse
 import importlib
@@ -27,27 +27,27 @@ if TYPE_CHECKING:
 _IN_CHECKOUT = ("clients", "python", "src", "xqs")
 SERVER_VARIABLE = "XQS_SERVER"
 INSTALLED_SERVER = "xq_server"
-"""The command of the server that Debian's package installs."""
+"""The server command that the Debian package installs."""
 MOST_KEPT = 1_048_576
-"""The most megabytes that a server can be asked to keep."""
+"""The most megabytes that a server may be told to keep."""
 
 
 @dataclass(frozen=True)
 class Entry:
-    """A command: the function that carries it out, as `module:function`, and what it does.
+    """A command: its function, as `module:function`, and a line about what it does.
 
-    The function takes the words after the command's own, at least so many, and gives the exit
-    status.
+    The function takes the words after the command's name, at least `least` of them, and returns the
+    exit status.
     """
 
     function: str
     summary: str
     least: int = 0
     has_command: bool = False
-    """Whether it takes `-- COMMAND` by itself."""
+    """Whether the command handles `-- COMMAND` itself."""
 
     def load(self) -> Callable[[Sequence[str]], int]:
-        """The function; ImportError where its module wants a package that is not there."""
+        """The function. Raises ImportError if its module needs a package that is not installed."""
         module, _, name = self.function.partition(":")
         function: Callable[[Sequence[str]], int] = getattr(importlib.import_module(module), name)
         return function
@@ -78,7 +78,7 @@ COMMANDS = {
 
 
 def checkout_server() -> Path | None:
-    """The command `serve` of the checkout that this package is run from; None where it is installed
+    """The command `serve` of the checkout that this package runs from; None if it is installed
     elsewhere."""
     folder = Path(__file__).resolve().parent
     if folder.parts[-4:] != _IN_CHECKOUT:
@@ -90,9 +90,9 @@ def checkout_server() -> Path | None:
 def connection_options(
     bounded: bool = True, file: bool = True, kept: bool = True
 ) -> argparse.ArgumentParser:
-    """The options that say where the server is, as a parent of a command's parser; with the bounds
-    of a request, the file of the documents, and how much one server keeps, unless the command has
-    its own."""
+    """The options that say where the server is, as a parent of a command's parser. Includes the
+    bounds of a request, the file of the documents, and how much one server keeps, unless the
+    command has its own."""
     options = argparse.ArgumentParser(add_help=False)
     group = options.add_argument_group("the server")
     group.add_argument(
@@ -120,16 +120,16 @@ def connection_options(
 
 
 def _megabytes(word: str) -> int:
-    """The number of megabytes that the server takes. ArgumentTypeError for any other word."""
+    """The number of megabytes for the server. Raises ArgumentTypeError for any other word."""
     if word.isascii() and word.isdecimal() and 1 <= int(word) <= MOST_KEPT:
         return int(word)
     raise argparse.ArgumentTypeError(f"not a number from 1 to {MOST_KEPT:,}: {word!r}")
 
 
 def server_of(given: argparse.Namespace) -> Endpoint:
-    """Where the server is, by the options, the environment, the checkout, or what is installed.
+    """Where the server is, by the options, the environment, the checkout, or the installed package.
 
-    ValueError where nothing says so, or it is no such place.
+    Raises ValueError if none of these says so, or if it is no such place.
     """
     installed = shutil.which(INSTALLED_SERVER)
     where = given.server or os.environ.get(SERVER_VARIABLE) or checkout_server() or installed
@@ -150,20 +150,20 @@ def _with_words(place: Endpoint, option: str, value: str) -> Endpoint:
 
 
 def is_lasting(place: Endpoint) -> bool:
-    """Whether documents are there after the connection's end: not where a command is started that
-    names no file, since they live in its memory."""
+    """Whether documents stay after the connection ends. They don't if a command without a file is
+    started, since they are in its memory."""
     return not isinstance(place, Command) or is_on_file(place.words)
 
 
 def warn_of_memory(place: Endpoint, command: str) -> None:
-    """Says so, where what is stored lives in memory and is gone at the command's end."""
+    """Warns if documents are in memory and will be lost when the command ends."""
     if not is_lasting(place):
         print(f"xqs {command}: no file is named, so the documents live in memory and are gone when "
               "this command ends: name a --file, or a server that goes on", file=sys.stderr)
 
 
 def connected(given: argparse.Namespace, place: Endpoint | None = None) -> "Client":
-    """A connection to the server that the options name, within the bounds that they name."""
+    """A connection to the server of the options, within the bounds of the options."""
     from xqs.client import connect
 
     it = bounds.bounds_of(given)
@@ -171,10 +171,10 @@ def connected(given: argparse.Namespace, place: Endpoint | None = None) -> "Clie
 
 
 def with_server(entry: Entry, words: Sequence[str]) -> list[str]:
-    """The words of a command, with the server that stands behind `--` as that of `--server`.
+    """The words of a command, with the server after `--` as its `--server`.
 
-    Where too few words stand before the `--` it is no end of them, but says that the next one is no
-    option: `xqs query -- -1`.
+    If too few words come before the `--`, it is only the mark that the next word is no option: `xqs
+    query -- -1`.
     """
     marks = [number for number, word in enumerate(words) if word == "--"]
     after_least = [it for it in marks if it >= entry.least + (it != marks[0])]
@@ -190,7 +190,7 @@ def with_server(entry: Entry, words: Sequence[str]) -> list[str]:
 
 
 def main(words: Sequence[str] | None = None) -> int:
-    """Carries out a command, and gives its exit status: 0 done, 1 refused, 2 misused."""
+    """Runs a command and returns its exit status: 0 done, 1 refused, 2 wrong usage."""
     words = list(sys.argv[1:] if words is None else words)
     given = _parser().parse_args(words[:1])
     rest = words[1:]
@@ -202,7 +202,7 @@ def main(words: Sequence[str] | None = None) -> int:
     except ModuleNotFoundError as error:
         print(f"xqs {given.command}: it wants the package {error.name}", file=sys.stderr)
     except BrokenPipeError:
-        # Who read the output has gone; Python writes what is left as it ends, which is to be quiet.
+        # The reader of the output has gone. Python would report that when it flushes at exit.
         os.dup2(os.open(os.devnull, os.O_WRONLY), sys.stdout.fileno())
     except (XqError, ValueError, OSError) as error:
         print(f"xqs {given.command}: {error}", file=sys.stderr)
@@ -213,9 +213,10 @@ def main(words: Sequence[str] | None = None) -> int:
 
 
 def _end_by_signals() -> None:
-    """Has the signals that end a program do so by an exception, so that what was begun is undone.
+    """Turns the signals that end a program into an exception, so that unfinished work is undone.
 
-    One that is ignored stays so, as `nohup` wants it. Only a main thread may ask for signals.
+    An ignored signal stays ignored, as `nohup` needs it. Only the main thread can set signal
+    handlers.
     """
     if threading.current_thread() is not threading.main_thread():
         return
@@ -229,7 +230,7 @@ def _end_by(number: int, _: FrameType | None) -> None:
 
 
 def _show_any_name() -> None:
-    """Has names of files that are no text shown with escapes, where they would be a fault."""
+    """Shows file names that are no valid text with escapes, in place of an error."""
     for stream in (sys.stdout, sys.stderr):
         if isinstance(stream, io.TextIOWrapper):
             stream.reconfigure(errors="backslashreplace")

@@ -1,4 +1,4 @@
-"""Where a server is: a command to start, a Unix socket, or a port of loopback."""
+"""Where a server is: a command to start, a Unix socket, or a loopback port."""
 
 import os
 import shlex
@@ -9,7 +9,7 @@ from typing import TypeAlias
 from xqs.errors import NoPlace
 
 LOOPBACK = ("127.0.0.1", "::1", "localhost")
-"""The hosts that a connection is made to, or taken from."""
+"""The hosts that may be connected to or listened at."""
 
 
 @dataclass(frozen=True)
@@ -35,7 +35,7 @@ class LoopbackPort:
 
 @dataclass(frozen=True)
 class Command:
-    """A program that is started, with its words; frames go to its standard input."""
+    """A program to start, with its words; frames go to its standard input."""
 
     words: tuple[str, ...]
 
@@ -49,10 +49,10 @@ Where: TypeAlias = Endpoint | str | os.PathLike[str] | Sequence[str | os.PathLik
 
 
 def endpoint(where: Where) -> Endpoint:
-    """Where a text or a list of words points to.
+    """The place that a text or a list of words names.
 
-    NoPlace (a ValueError) for a host that is not loopback, a port that is none, and a command that
-    is none.
+    Raises NoPlace (a ValueError) for a host that is not loopback, an invalid port, and an invalid
+    command.
     """
     if isinstance(where, UnixSocket | LoopbackPort | Command):
         return where

@@ -21,13 +21,13 @@ from xqs.values import Event
 from xqs.xml_out import FLAT, KEEP, NotXml, write_document
 
 BUILT = "out"
-"""How the checkout's folders are called in which programs are built."""
+"""The names of the checkout's folders that programs are built in."""
 SUFFIX = {"xml": ".xml", "constructors": ".xq"}
 
 
 @contextmanager
 def written(path: Path) -> Iterator[TextIO]:
-    """A file that stands under its name once it is whole, and not at all where that fails."""
+    """A file that gets its name only once it is whole, and is removed if the writing fails."""
     path.parent.mkdir(parents=True, exist_ok=True)
     whole = path.with_name(f".{path.name[:200]}.{os.getpid()}.part")
     try:
@@ -50,7 +50,7 @@ class Exporter:
         force: bool,
         progress: Progress | None = None,
     ) -> None:
-        """`form` is `xml` or `constructors`; files that are there are replaced by `force` alone."""
+        """`form` is `xml` or `constructors`. Existing files are replaced only with `force`."""
         self._client, self._folder = client, folder
         self._progress = progress or silent()
         self._form, self._names, self._force = form, names, force
@@ -63,8 +63,8 @@ class Exporter:
         return len(self._taken)
 
     def export_all(self, prefix: str = "") -> dict[str, str]:
-        """Writes the documents whose address begins so, but temporary ones; those that can't be
-        written, with the reason of each."""
+        """Writes the documents whose addresses have a prefix, except temporary ones. Returns those
+        that can't be written, with the reason for each."""
         refused: dict[str, str] = {}
         known = self._client.list()
         wanted = [it for it in known if it.startswith(prefix) and not is_temporary(it)]
@@ -79,7 +79,7 @@ class Exporter:
         return refused
 
     def file_of(self, address: str, prefix: str) -> Path:
-        """The file of a document; NoPath where there can't be one."""
+        """The file of a document. Raises NoPath if there can't be one."""
         path = Path(path_of(address.removeprefix(prefix)))
         if not path.suffix:
             path = path.with_name(path.name + SUFFIX[self._form])
@@ -91,7 +91,7 @@ class Exporter:
         return file
 
     def export(self, address: str, prefix: str = "") -> Path:
-        """Writes a document, and gives its file. NoPath, NotXml, OSError, ReplyError."""
+        """Writes a document and returns its file. Raises NoPath, NotXml, OSError, ReplyError."""
         file = self.file_of(address, prefix)
         with written(file) as out:
             write = self._counted(out.write) if self._progress.draws else out.write
@@ -131,7 +131,7 @@ def main(words: Sequence[str]) -> int:
 
 
 def _check_folder(folder: Path) -> None:
-    """ValueError for a folder of the build of this checkout, which is no place for documents."""
+    """Raises ValueError for a folder of this checkout's builds, where documents don't belong."""
     serve = checkout_server()
     if serve is None or not folder.resolve().is_relative_to(serve.parent):
         return

@@ -12,7 +12,8 @@ HOUR = 3600
 
 
 def collect(client: Client, older_than: float, is_dry: bool = False) -> list[str]:
-    """Drops the temporary documents of series that began that many seconds ago; their addresses."""
+    """Drops the temporary documents of series that began `older_than` seconds ago or earlier. Returns
+    their addresses."""
     now = time.time()
     found = [it for it in client.list() if is_temporary(it)]
     left = [it for it in found if (age(it, now) or 0) >= older_than]
