@@ -71,10 +71,8 @@ def watch(process: int) -> int | None:
 
 
 def end_as(status: int) -> int:
-    """The exit status of a server with this wait status; ends by the same signal if it was one.
-
-    Also ends what the server started.
-    """
+    """Ends what the server started, and returns the exit status for this wait status. If a signal
+    ended the server, ends by the same signal."""
     signal.signal(signal.SIGTERM, signal.SIG_IGN)
     os.killpg(0, signal.SIGTERM)
     code = os.waitstatus_to_exitcode(status)

@@ -1,4 +1,4 @@
-"""What a multiplexer that runs can be asked by its owner, and the commands that ask it."""
+"""What the owner of a running multiplexer can ask it, and the commands that ask."""
 
 import argparse
 import asyncio
@@ -18,11 +18,11 @@ from xqs.served import Identity, place_named
 from xqs.upgrading import NotUpgraded, absolute
 
 AT_ONCE = "now"
-"""The argument by which a multiplexer ends without answering what it was asked before."""
+"""The argument that makes a multiplexer end without answering the requests that it has."""
 
 
 class Multiplexing(Protocol):
-    """A multiplexer, whatever number of servers it has."""
+    """A multiplexer with any number of servers."""
 
     @property
     def metrics(self) -> Metrics: ...
@@ -46,7 +46,7 @@ def lines_of(multiplexer: Multiplexing) -> str:
 
 
 def actions_of(multiplexer: Multiplexing) -> Mapping[str, Action]:
-    """What it can be asked."""
+    """The requests that it answers."""
 
     async def status(_: str, say: Say) -> None:
         await say(lines_of(multiplexer))
@@ -65,8 +65,8 @@ def actions_of(multiplexer: Multiplexing) -> Mapping[str, Action]:
 
 def own_actions(command: Sequence[str], asked: asyncio.Event,
                 again: asyncio.Event) -> Mapping[str, Action]:
-    """What a multiplexer that is a process of its own can be asked besides: which process it is,
-    which file its command has, and to end, in order or at once."""
+    """Further requests of a multiplexer in its own process: its process number, the file of its
+    command, and to end, in order or at once."""
     file = file_of(command)
     identity = Identity.of(file) if file is not None else None
 
@@ -85,8 +85,8 @@ def own_actions(command: Sequence[str], asked: asyncio.Event,
 
 
 def ask_upgrade(place: str, command: Sequence[str]) -> int:
-    """Has the multiplexer at a place run another command; gives the exit status. NotUpgraded,
-    NotRunning."""
+    """Makes the multiplexer at a place run another command. Returns the exit status. Raises
+    NotUpgraded, NotRunning."""
     words = absolute(command, Path.cwd())
     try:
         for line in control.ask(place, f"upgrade {json.dumps(words)}", None):
