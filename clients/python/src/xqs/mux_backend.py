@@ -21,7 +21,7 @@ PROBE = b"Q()"
 """The kind and body of the first frame: when the server answers it, it has opened its store."""
 
 BLAMELESS = 0.25
-"""A server that ends within so many seconds of work on a query didn't end because of that query."""
+"""If a server ends within this many seconds of work on a query, the query is not the cause."""
 
 
 class ServerEnded(XqError):
@@ -194,8 +194,8 @@ class Backend:
         return self.worked() <= BLAMELESS
 
     def leave_for_nobody(self, patience: float = BLAMELESS) -> bool:
-        """Ends a server that has worked for so many seconds on a query whose client has gone.
-        Returns whether it did."""
+        """Ends a server that has worked for `seconds` on a query whose client has gone. Returns
+        whether it did."""
         front = self.in_flight[0] if self.in_flight else None
         if front is None or front.peer is None or front.changes() or self.worked() <= patience:
             return False

@@ -27,7 +27,7 @@ LEAST_PART = 100_000
 """A shorter part, in bytes, holds plain nodes: the expression that makes nodes of texts has some
 4,000 bytes."""
 SHORT = 1_000
-"""A text takes further nodes up to so many characters: the time to look into it grows with its
+"""A text takes further nodes up to this many characters: the time to look into it grows with its
 length."""
 MOST_NODES, LONGEST_NAME = 999, 99
 _COUNT, _HEAD = 3, 11
@@ -111,7 +111,7 @@ def unpacked(addresses: Iterable[str]) -> str:
 
 
 def counted(document: str, nodes: int) -> str:
-    """The expression that gives a document if it has exactly so many nodes, else nothing."""
+    """The expression that gives a document if it has exactly this number of nodes, else nothing."""
     return (f"let $d := {document} return if (count($d/descendant-or-self::node()) + "
             f"count($d//@*) = {nodes}) then $d else ()")
 
