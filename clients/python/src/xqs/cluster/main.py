@@ -1,4 +1,5 @@
-"""`xqs node`: a server that follows a replicated log. `xqs snapshot`: asks one for a snapshot."""
+"""`xqs node`: a server that follows a replicated log. `xqs snapshot`: asks a node for a
+snapshot."""
 
 import argparse
 import asyncio
@@ -28,7 +29,7 @@ USAGE = ("xqs node --log amqp://HOST/NAME[,..] --listen unix:PATH|tcp:PORT [OPTI
          "[-- COMMAND [WORDS]]")
 DEFAULTS = Settings(client_window=64)
 SERVERS = 2
-"""Servers of a node where nothing else is said: one may be held, or take a snapshot."""
+"""The default number of a node's servers: one may be busy, or take a snapshot."""
 _NAME = re.compile(r"[A-Za-z0-9._-]{1,60}")
 
 say = partial(mux.say, command="node")
@@ -36,11 +37,11 @@ say = partial(mux.say, command="node")
 
 async def run(address: LogAddress, place: str, options: Options, settings: Settings,
               http: str | None = None) -> int:
-    """Runs a node until a signal, or until it ends by itself; gives the exit status.
+    """Runs a node until a signal, or until it ends by itself. Returns the exit status.
 
-    Raises PlaceError, StartFailed, CannotFollow, and what else keeps it from beginning.
+    Raises PlaceError, StartFailed, CannotFollow, and other errors if it can't begin.
     """
-    # (here, so that all else works where the package is not installed)
+    # (here, so that all else works if the package is not installed)
     from xqs.cluster.amqp import AmqpLog
     from xqs.cluster.amqp_link import quiet
 
@@ -72,7 +73,7 @@ async def run(address: LogAddress, place: str, options: Options, settings: Setti
 
 async def _answer_operators(node: Node, http: str | None, stack: contextlib.AsyncExitStack
                             ) -> None:
-    """Answers what operators and load balancers ask, from before the node follows the log."""
+    """A context that answers operators and load balancers, from before the node follows the log."""
     if node.options.snapshots:
         path = control.control_path(node.options.snapshots)
         asked = listening.listen_unix(str(path))
@@ -135,7 +136,8 @@ async def _take_clients(
 
 
 def _on_fault(loop: asyncio.AbstractEventLoop, context: dict[str, object]) -> None:
-    """Passes over what the package's own tasks raise as a connection ends, and tells the rest."""
+    """Ignores the errors of the package's own tasks when a connection ends, and reports all
+    others."""
     task = context.get("future") or context.get("task")
     if not (isinstance(task, asyncio.Future) and any(it in repr(task) for it in _THEIRS)):
         loop.default_exception_handler(context)
@@ -145,10 +147,10 @@ _THEIRS = ("aiormq", "aio_pika")
 
 
 def main(words: Sequence[str]) -> int:
-    """Runs `xqs node` with these words; gives the exit status.
+    """Runs `xqs node` with these words. Returns the exit status.
 
-    0 after a signal, and where all nodes end; 1 where it has to end, or can't begin; 2 for wrong
-    words. Raises XqError, ValueError and OSError where it can't begin.
+    0 after a signal, and if all nodes end; 1 if it must end, or can't begin; 2 for wrong words.
+    Raises XqError, ValueError and OSError if it can't begin.
     """
     before, after = mux.split_command(words)
     parser = _parser()
@@ -223,7 +225,7 @@ def _parser() -> argparse.ArgumentParser:
 
 
 def snapshot_main(words: Sequence[str]) -> int:
-    """Runs `xqs snapshot` with these words; gives the exit status."""
+    """Runs `xqs snapshot` with these words. Returns the exit status."""
     parser = argparse.ArgumentParser(
         prog="xqs snapshot",
         description="Has the node that runs with this folder take a snapshot now. With --end all "

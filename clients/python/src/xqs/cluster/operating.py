@@ -1,4 +1,4 @@
-"""What an operator asks by `xqs node --status`, `--skip` and `--copies`."""
+"""An operator's questions: `xqs node --status`, `--skip` and `--copies`."""
 
 import argparse
 import sys
@@ -11,7 +11,7 @@ from xqs.errors import XqError
 
 
 def add_options(parser: argparse.ArgumentParser) -> None:
-    """Adds the options, each of which has no node begin."""
+    """Adds the options; with any of them no node begins."""
     group = parser.add_argument_group("questions, which start no node").add_argument
     group("--status", action="store_true",
           help="how the node does that runs with the folder of --snapshots; the exit status is 0 "
@@ -25,12 +25,12 @@ def add_options(parser: argparse.ArgumentParser) -> None:
 
 
 def asks(given: argparse.Namespace) -> bool:
-    """Whether the words ask something, and want no node."""
+    """Whether the words ask something, and begin no node."""
     return given.status or given.copies or given.skip is not None
 
 
 def answer(given: argparse.Namespace, address: LogAddress | None) -> int:
-    """Answers what the words ask; the exit status. Raises XqError."""
+    """Answers the question in the words. Returns the exit status. Raises XqError."""
     if address is not None:
         return ending.run(_copies(address), "node")
     if given.snapshots is None:
@@ -59,7 +59,7 @@ def _status(folder: Path, is_json: bool) -> int:
 
 
 async def _copies(address: LogAddress) -> int:
-    # (here, so that all else works where the package is not installed)
+    # (here, so that all else works if the package is not installed)
     from xqs.cluster.amqp import AmqpLog
     from xqs.cluster.amqp_link import quiet
 
