@@ -201,7 +201,7 @@ class Agreeing(unittest.TestCase):
         self.own.reached(2 * EVERY, "3" * 64)
 
     def test_another_program_with_the_same_sums_is_a_warning_that_is_said_once(self) -> None:
-        self.assertIn("node b runs the program q, and this one p: their sums are alike so far",
+        self.assertIn("node b runs the program q, and this one p: their sums are equal so far",
                       self.hear("b", "1", "q"))
         self.assertEqual(self.hear("b", "1", "q"), "")
         self.hear("c", "1", "q")

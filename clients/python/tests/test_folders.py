@@ -83,7 +83,7 @@ class Commands(CommandTest):
         self.assertIn("1 stored, 4 refused, 0 failed", said)
         lines = out.splitlines()
         self.assertEqual(len(lines), 4)
-        self.assertTrue(lines[0].startswith("colon.xml:2:2: the name p:b wants namespaces"))
+        self.assertTrue(lines[0].startswith("colon.xml:2:2: the name p:b needs namespaces"))
         self.assertTrue(lines[1].startswith("cut.xml:1:4: no element found"))
         self.assertIn("entity.xml:1:25: the entity e is declared here", lines[2])
         self.assertIn("its address would have", lines[3])
@@ -257,7 +257,7 @@ class Commands(CommandTest):
             self.words = ["--server", command]
             status, _, said = self.run_command("load", self.folder / "in")
             self.assertEqual(status, 1)
-            self.assertIn("the same call goes on from here", said)
+            self.assertIn("the same command resumes from here", said)
         self.assertEqual(len(list((self.folder / "state").rglob("*.jsonl"))), 2)
 
     def test_what_is_no_file_is_listed(self) -> None:

@@ -362,7 +362,7 @@ class ShutTest(MuxTest):
         self.assertEqual(mux.process.wait(PATIENCE), 1)
         self.assertIn("the server could not be started again", mux.said())
 
-    def test_a_reply_that_nobody_awaits_ends_its_server(self) -> None:
+    def test_a_reply_without_a_request_ends_its_server(self) -> None:
         reply = r"\0\0\0\7\0\0\0\1\0()"
         mux = self.enterContext(RunningMux(command=["sh", "-c", f"printf '{reply * 2}'; sleep 60"]))
         self.assertEqual(mux.process.wait(PATIENCE), 1)
@@ -439,7 +439,7 @@ class PlacesTest(MuxTest):
         file.write_text("kept")
         ended = run_mux(f"unix:{file}", "--", *server_command())
         self.assertEqual(ended.returncode, 1)
-        self.assertIn("a file stands there that is no socket", ended.stderr)
+        self.assertIn("there is a file that is no socket", ended.stderr)
         self.assertEqual(file.read_text(), "kept")
 
     def test_tcp_listens_on_loopback_alone(self) -> None:

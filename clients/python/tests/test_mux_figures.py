@@ -116,7 +116,7 @@ class FiguresTest(MuxTest):
     def test_who_asks_where_nobody_listens_is_told(self) -> None:
         done = run_xqs("status", f"unix:{self.folder}/none")
         self.assertEqual(done.returncode, 1)
-        self.assertIn("no multiplexer of this user's runs at", done.stderr)
+        self.assertIn("no multiplexer of this user runs at", done.stderr)
 
     def test_the_control_is_its_owners_and_goes_with_the_multiplexer(self) -> None:
         mux = self.mux(servers=1)
@@ -136,7 +136,7 @@ class FiguresTest(MuxTest):
     def test_where_it_can_not_be_asked_it_serves(self) -> None:
         (self.folder / "s.control").mkdir()
         mux = self.enterContext(RunningMux(place=f"unix:{self.folder}/s"))
-        mux.wait_for("it can't be asked how it does")
+        mux.wait_for("it can't be asked for its status")
         self.assertEqual(self.client(mux).ask(b"Q", b"1"), (DONE, b"1"))
 
     def test_a_port_has_its_control_too(self) -> None:
@@ -187,7 +187,7 @@ class UpgradeTest(MuxTest):
         self.assertEqual(client.ask(b"Q", b"doc('a')//red"), (DONE, b"element red {}"))
         done = self.upgrade(mux, self.program("other", "//red"))
         self.assertEqual(done.returncode, 1)
-        self.assertIn("it answers otherwise", done.stderr)
+        self.assertIn("its answer differs", done.stderr)
         for _ in range(6):
             self.assertEqual(client.ask(b"Q", b'doc("a")'),
                              (DONE, b"document {element red {}}"))
@@ -199,7 +199,7 @@ class UpgradeTest(MuxTest):
         self.assertEqual(client.ask(b"S", store_body(b"a")), (DONE, b"stored"))
         done = self.upgrade(mux, Path("/bin/false"))
         self.assertEqual(done.returncode, 1)
-        self.assertIn("the program is not taken over, and the one before goes on: server 2: the "
+        self.assertIn("the upgrade is refused, and the old program goes on: server 2: the "
                       "server ended as it started", done.stderr)
         other = run_xqs("mux", "--upgrade", mux.place, "--", *server_command(), "--file", "other")
         self.assertEqual(other.returncode, 1)

@@ -105,7 +105,7 @@ class Judged(ServerTest):
     def test_a_file_is_judged_before_its_first_part_is_sent(self) -> None:
         text = "<a>\n" + f"<b>{'t' * 900}</b>" * 3_000
         self.refused(text + "</c>", 2, 3_000 * 907 + 3, "mismatched tag")
-        self.refused(text + "<p:c/></a>", 2, 3_000 * 907 + 1, "wants namespaces")
+        self.refused(text + "<p:c/></a>", 2, 3_000 * 907 + 1, "needs namespaces")
         self.refused(text + "<c>" * 100, 2, 3_000 * 907 + 99 * 3 + 1, "deeper than 100 levels")
         self.refused(text + "&u;</a>", 2, 3_000 * 907 + 1, "undefined entity")
         with mock.patch("xqs.parts.MAX_NODES", 5_000):
@@ -161,7 +161,7 @@ class Switches(CommandTest):
         with mock.patch("xqs.load.Loader.load", side_effect=KeyboardInterrupt):
             status, _, said = self.run_command("load", self.folder / "in")
         self.assertEqual(status, 1)
-        self.assertIn("xqs load: interrupted; the same call goes on from here", said)
+        self.assertIn("xqs load: interrupted; the same command resumes from here", said)
 
 
 if __name__ == "__main__":

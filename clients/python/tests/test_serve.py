@@ -140,7 +140,7 @@ class Ends(ServeTest):
             time.sleep(0.5)
             done = self.stop("--wait", "1")
             self.assertEqual(done.returncode, 1)
-            self.assertIn("is served still after 1 seconds", done.stderr)
+            self.assertIn("is still served after 1 seconds", done.stderr)
             wait_until(lambda: not self.socket.exists(), "it goes on to listen")
             client.kill()
         wait_until(lambda: not running(str(self.path)), "it does not end")

@@ -67,7 +67,7 @@ class Sessions(ServerTest):
     def test_documents(self) -> None:
         file = self.folder / "a b.xml"
         file.write_text("<p:a xmlns:p='u'/>")
-        self.assertIn("wants namespaces", self.asked(f'.store x "{file}"'))
+        self.assertIn("needs namespaces", self.asked(f'.store x "{file}"'))
         self.assertEqual(self.asked(".names flat"), "")
         self.assertEqual(self.asked(f'.store x "{file}"'), "stored")
         self.assertEqual(self.asked(".list"), "b\nx")

@@ -80,7 +80,7 @@ class AsyncLink:
         try:
             return await open_async_stream(self._origin.place, self._origin.bounds)
         except OSError as error:
-            raise Closed(f"the stream ended, and there is no other one: {error}") from error
+            raise Closed(f"the stream ended, and a new one can't be made: {error}") from error
 
     def _begin(self, stream: AsyncStream) -> None:
         self._stream: AsyncStream | None = stream
@@ -140,7 +140,7 @@ class AsyncLink:
                     self._look()
         except (protocol.FrameFault, KeyError) as error:
             stream.kill()
-            return f"the stream is no server's ({error})"
+            return f"the other end is not a server ({error})"
         except OSError as error:
             return f"the stream ended ({error})"
         return "the stream ended"

@@ -84,5 +84,5 @@ def strings_of(settings: list[str]) -> Mapping[str, str]:
     pairs = [it.partition("=") for it in settings]
     wrong = next((text for text, pair in zip(settings, pairs, strict=True) if not pair[1]), None)
     if wrong is not None:
-        raise ValueError(f"--set wants NAME=TEXT, not {wrong!r}")
+        raise ValueError(f"--set needs NAME=TEXT, not {wrong!r}")
     return {name: value for name, _, value in pairs}

@@ -113,17 +113,17 @@ def _copy(source: IO[bytes], target: BinaryIO) -> None:
 def entries(file: BinaryIO) -> Iterator[Entry]:
     """The documents of a backup, each checked by its digest. Raises NoBackup."""
     if file.readline() != FORM:
-        raise NoBackup("the file is no backup of this form")
+        raise NoBackup("the file is not a backup")
     count = 0
     while (line := file.readline()).startswith(b"document "):
         entry = _entry(line, file.tell())
         if _digest(file, entry.size) != entry.digest or file.read(1) != b"\n":
-            raise NoBackup(f"the backup's document {entry.address} is cut or was changed")
+            raise NoBackup(f"the backup's document {entry.address} is cut short or was changed")
         yield entry
         count += 1
         file.seek(entry.start + entry.size + 1)
     if line != f"end {count}\n".encode() or file.read(1):
-        raise NoBackup(f"the backup is cut, or goes on, after {count} documents")
+        raise NoBackup(f"the backup is cut short, or has more, after {count} documents")
 
 
 def _entry(line: bytes, start: int) -> Entry:
@@ -197,14 +197,14 @@ def main(words: Sequence[str]) -> int:
     parser = argparse.ArgumentParser(
         prog="xqs backup",
         parents=[connection_options()],
-        description="Writes all documents to one file, and reads it back. Each document is of one "
-        "moment; what was changed meanwhile is told.",
+        description="Writes all documents to one file, and reads it back. Each document is a "
+        "consistent snapshot; documents that change meanwhile are listed.",
     )
     parser.add_argument("backup", type=Path)
-    parser.add_argument("--force", action="store_true", help="replace a file that is there")
+    parser.add_argument("--force", action="store_true", help="replace an existing file")
     given = parser.parse_args(words)
     if given.backup.exists() and not given.force:
-        raise FileExistsError(f"{given.backup} is there already; --force replaces it")
+        raise FileExistsError(f"{given.backup} exists already; --force replaces it")
     part = given.backup.with_name(given.backup.name + ".part")
     try:
         with connected(given) as client, open(part, "w+b") as file:
@@ -242,11 +242,11 @@ def restore_main(words: Sequence[str]) -> int:
         prog="xqs restore",
         parents=[connection_options()],
         description="Stores the documents of a backup, or of a node's snapshot, and reads each "
-        "back. The whole file is judged before the first one is stored; other documents stay as "
+        "back. The whole file is checked before the first one is stored; other documents stay as "
         "they are.",
     )
     parser.add_argument("backup", type=Path)
-    parser.add_argument("--replace", action="store_true", help="replace documents that are there")
+    parser.add_argument("--replace", action="store_true", help="replace existing documents")
     given = parser.parse_args(words)
     place = server_of(given)
     warn_of_memory(place, "restore")

@@ -106,11 +106,11 @@ def add_options(parser: argparse.ArgumentParser) -> None:
     half = half_of_memory()
     group.add_argument(
         "--seconds", type=seconds_of, metavar="N", default=SECONDS,
-        help="how long the server may be at one request, before it is ended and started again "
-        "(%(default)g; 0: any time)")
+        help="how many seconds the server may take for one request, before it is ended and started "
+        "again (%(default)g; 0: any time)")
     group.add_argument(
         "--memory", type=memory_of, metavar="SIZE", default=half,
-        help="how much memory the server may have, as 4G: a request that wants more is refused "
+        help="how much memory the server may use, as 4G: a request that needs more is refused "
         f"(half of this machine's, {shown_size(half)}; 0: any)")
 
 

@@ -66,13 +66,13 @@ COMMANDS = {
     "gc": Entry("xqs.gc:main", "drop temporary documents that a crash left"),
     "shell": Entry("xqs.shell:main", "ask queries by hand"),
     "serve": Entry("xqs.serve:main", "serve one file in the background", 1, has_command=True),
-    "stop": Entry("xqs.serve:stop_main", "end what serves a file in the background", 1),
+    "stop": Entry("xqs.serve:stop_main", "stop serving a file in the background", 1),
     "mux": Entry("xqs.mux:main", "one server or several for many clients", has_command=True),
-    "status": Entry("xqs.mux_control:status_main", "how a multiplexer that runs does", 1),
+    "status": Entry("xqs.mux_control:status_main", "show the status of a running multiplexer", 1),
     "node": Entry(
         "xqs.cluster.main:main", "a server that follows a replicated log", has_command=True),
     "snapshot": Entry(
-        "xqs.cluster.main:snapshot_main", "have a node take a snapshot now", has_command=True),
+        "xqs.cluster.main:snapshot_main", "make a node take a snapshot now", has_command=True),
     "web": Entry("xqs.web:main", "HTTP on loopback, and a page", has_command=True),
 }
 
@@ -104,15 +104,15 @@ def connection_options(
     )
     if file:
         group.add_argument(
-            "--file", metavar="PATH", help="the file of the documents, which is asked for where "
-            "`xqs serve` serves it, or else with the command that is started"
+            "--file", metavar="PATH", help="the file of the documents: through `xqs serve` if that "
+            "serves the file, else by a server that is started"
         )
     options.set_defaults(kept_by_one=None)
     if kept:
         group.add_argument(
             "--kept", metavar="MB", type=_megabytes, dest="kept_by_one",
-            help="how much a server that is started keeps of what queries read, from 1 to "
-            "1,048,576; ./serve takes a sixteenth of the free memory otherwise, at least 128"
+            help="the cache of a server that is started, for what queries read, from 1 to "
+            "1,048,576; by default ./serve takes a sixteenth of the free memory, at least 128"
         )
     if bounded:
         bounds.add_options(options)
@@ -158,8 +158,9 @@ def is_lasting(place: Endpoint) -> bool:
 def warn_of_memory(place: Endpoint, command: str) -> None:
     """Warns if documents are in memory and will be lost when the command ends."""
     if not is_lasting(place):
-        print(f"xqs {command}: no file is named, so the documents live in memory and are gone when "
-              "this command ends: name a --file, or a server that goes on", file=sys.stderr)
+        print(f"xqs {command}: no file is named, so the documents are in memory and will be lost "
+              "when this command ends: give --file, or a server that keeps running",
+              file=sys.stderr)
 
 
 def connected(given: argparse.Namespace, place: Endpoint | None = None) -> "Client":
@@ -183,9 +184,9 @@ def with_server(entry: Entry, words: Sequence[str]) -> list[str]:
     at = after_least[0]
     command = list(words[at + 1 :])
     if not command:
-        raise NoPlace("behind -- stands the command of a server")
+        raise NoPlace("a server's command must follow --")
     if any(it == "--server" or it.startswith("--server=") for it in words[:at]):
-        raise NoPlace("--server and a command behind -- are two servers")
+        raise NoPlace("--server and a command after -- name two servers")
     return ["--server", shlex.join(command), *words[:at]]
 
 
@@ -200,7 +201,7 @@ def main(words: Sequence[str] | None = None) -> int:
     try:
         return entry.load()(rest if entry.has_command else with_server(entry, rest))
     except ModuleNotFoundError as error:
-        print(f"xqs {given.command}: it wants the package {error.name}", file=sys.stderr)
+        print(f"xqs {given.command}: it needs the package {error.name}", file=sys.stderr)
     except BrokenPipeError:
         # The reader of the output has gone. Python would report that when it flushes at exit.
         os.dup2(os.open(os.devnull, os.O_WRONLY), sys.stdout.fileno())
@@ -241,7 +242,7 @@ def _parser() -> argparse.ArgumentParser:
     parser = argparse.ArgumentParser(
         prog="xqs",
         description="A client of xq_server.",
-        epilog=f"commands:\n{table}\n\n'xqs COMMAND --help' says more of each. "
+        epilog=f"commands:\n{table}\n\n'xqs COMMAND --help' explains each. "
         "'xqs COMMAND .. -- SERVER [WORDS]' starts that server.",
         formatter_class=argparse.RawDescriptionHelpFormatter,
     )

@@ -32,7 +32,7 @@ def _words(name: str, description: str) -> argparse.ArgumentParser:
 
 def out_options(words: argparse.ArgumentParser) -> None:
     """Adds the options for the printing of nodes."""
-    words.add_argument("--xml", action="store_true", help="nodes as XML, one item a line")
+    words.add_argument("--xml", action="store_true", help="nodes as XML, one item per line")
     words.add_argument("--names", choices=[KEEP, FLAT], default=KEEP,
                        help="flat shows p__a as p:a; a query may then have such names too")
 
@@ -119,7 +119,8 @@ def drop(words: Sequence[str]) -> int:
     parser = _words("drop", "Drops documents, each by its address, or all that match a pattern.")
     parser.add_argument("address", nargs="+", help="an address, or a pattern such as 'books/*': * "
                         "stands for any characters, slashes too, ? for one, [ab] for one of these")
-    parser.add_argument("--yes", action="store_true", help="don't ask before a pattern's go")
+    parser.add_argument("--yes", action="store_true",
+                        help="don't ask before dropping what matches a pattern")
     given = parser.parse_args(words)
     with connected(given) as client:
         found = chosen(client, given.address)
@@ -139,9 +140,10 @@ def _say_drop(text: str) -> None:
 
 def list_addresses(words: Sequence[str]) -> int:
     """Prints the addresses."""
-    parser = _words("list", "Prints the addresses, one a line.")
+    parser = _words("list", "Prints the addresses, one per line.")
     parser.add_argument("prefix", nargs="?", default="",
-                        help="those alone that begin so, or match a pattern such as 'books/*.xml'")
+                        help="only those with this prefix, or that match a pattern such as "
+                        "'books/*.xml'")
     given = parser.parse_args(words)
     with connected(given) as client:
         wanted = named_by(client.list(), given.prefix)

@@ -105,7 +105,7 @@ class Comparing:
             path = write_evidence(evidence_folder(self._command), payload, replies)
             where = f"the request and the replies are in {path}"
         except OSError as error:
-            where = f"they could not be kept ({error})"
+            where = f"they could not be saved ({error})"
         names = " and ".join(name for name, _ in replies)
         self._say(f"{names} gave different replies to one request: nothing is stored or dropped "
                   f"any more; {where}")

@@ -30,7 +30,7 @@ _REFERENCE = re.compile(r"&(?:(lt|gt|amp|quot|apos)|#([0-9]+)|#x([0-9a-fA-F]+));
 _PREDEFINED = {"lt": "<", "gt": ">", "amp": "&", "quot": '"', "apos": "'"}
 _KINDS = {it.value: it for it in NodeKind}
 _NAMED = frozenset((NodeKind.ELEMENT, NodeKind.ATTRIBUTE, NodeKind.INSTRUCTION))
-NOT_ONE = "what is to be stored is not exactly one document"
+NOT_ONE = "the text is not exactly one document"
 
 
 class _Parent:
@@ -86,14 +86,14 @@ class ConstructorReader:
                 self._events.clear()
             self._at = found.end()
         if not self._is_over:
-            raise self.fault("the text ends inside of a constructor" if self._stack else NOT_ONE)
+            raise self.fault("the text ends inside a constructor" if self._stack else NOT_ONE)
 
     def _comment(self) -> int:
         """The end of the comment that begins here."""
         end = comment_end(self._text, self._at) if self._text.startswith("(:", self._at) else None
         if end is None:
-            raise self.fault("a text that is too long for a request has constructors alone, as "
-                             "document {element a {\"b\"}}, and here is something else")
+            raise self.fault("a text that is too long for a request must have only constructors, "
+                             "as document {element a {\"b\"}}, but here is something else")
         return end
 
     def _item(self, kind: NodeKind | None) -> _Parent | None:
@@ -143,7 +143,7 @@ class ConstructorReader:
         elif parent.kind is NodeKind.DOCUMENT:
             raise self.fault("a document has no attributes")
         elif parent.has_content:
-            raise self.fault("an attribute stands after other content")
+            raise self.fault("an attribute comes after other content")
         elif name in parent.names:
             raise self.fault(f"the element has two attributes called {name}")
         else:
@@ -156,7 +156,7 @@ class ConstructorReader:
         if not self._stack:
             raise self.fault("a brace closes that was not opened")
         if self._after_comma:
-            raise self.fault("nothing stands after the comma")
+            raise self.fault("nothing follows the comma")
         last = self._stack.pop()
         self._wants_comma, self._is_over = True, not self._stack
         if last.kind in PARENTS:
@@ -167,7 +167,7 @@ class ConstructorReader:
 
     def _comma(self, _: re.Match[str]) -> None:
         if not self._wants_comma:
-            raise self.fault("a comma stands before the first item or after another one")
+            raise self.fault("a comma comes before the first item or after another comma")
         self._wants_comma, self._after_comma = False, True
 
     def _end_text(self, parent: _Parent) -> None:
@@ -185,7 +185,7 @@ class ConstructorReader:
         if ":" not in name and name != NAMESPACE:
             return kind, name
         if not self._is_flat:
-            raise self.fault(f"the name {name} wants namespaces, which the server doesn't have; "
+            raise self.fault(f"the name {name} needs namespaces, which the server doesn't have; "
                              "the choice 'flat' takes it")
         try:
             return kind, self._stored.setdefault(name, incoming(Names.FLAT)(name))

@@ -71,7 +71,7 @@ async def listening(place: str, actions: Mapping[str, Action],
     try:
         listener = listen_unix(str(control_path(place)))
     except (PlaceError, OSError) as error:
-        note(f"it can't be asked how it does: {error}")
+        note(f"it can't be asked for its status: {error}")
         yield
         return
 
@@ -122,7 +122,7 @@ def ask(place: str, request: str, seconds: float | None = SECONDS) -> Iterator[s
         try:
             connection.connect(str(path))
         except OSError as error:
-            raise NotRunning(f"no multiplexer of this user's runs at {place} ({path}: "
+            raise NotRunning(f"no multiplexer of this user runs at {place} ({path}: "
                              f"{error.strerror})") from error
         connection.sendall(request.encode() + b"\n")
         with connection.makefile("r", encoding="utf-8", errors="replace") as answers:

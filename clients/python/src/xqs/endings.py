@@ -42,8 +42,8 @@ class Cause(Enum):
     """Why a stream ended."""
 
     ITSELF = "the stream ended"
-    OVERDUE = "the server was too long at a request"
-    ABANDONED = "nobody awaits the reply any more"
+    OVERDUE = "the server took too long for a request"
+    ABANDONED = "nobody waits for the reply any more"
     CLOSED = "the connection was closed"
 
 
@@ -130,8 +130,8 @@ def told(waiting: Waiting[F], missing: set[str]) -> str:
 
 def gone(missing: set[str]) -> str:
     """The message about documents that a server at a socket no longer has after a break."""
-    return ("the stream ended, and at its other end documents that were stored here are there no "
-            f"more: {named(missing)}")
+    return ("the stream ended, and the server no longer has documents that were stored here: "
+            f"{named(missing)}")
 
 
 def _closed(waiting: Waiting[F], why: str) -> Closed:

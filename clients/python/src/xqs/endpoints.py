@@ -66,7 +66,7 @@ def _of_text(text: str) -> Endpoint:
     scheme, colon, rest = text.partition(":")
     if colon and scheme == "unix":
         if not rest:
-            raise NoPlace("unix: wants the path of a socket")
+            raise NoPlace("unix: needs the path of a socket")
         return UnixSocket(rest)
     if colon and scheme == "tcp":
         return _port(rest)
@@ -81,7 +81,7 @@ def _port(text: str) -> LoopbackPort:
     host, _, port = text.rpartition(":")
     host = host.strip("[]") or LOOPBACK[0]
     if host not in LOOPBACK:
-        raise NoPlace(f"not this machine: {host} (the protocol has no password and no cipher)")
+        raise NoPlace(f"not this machine: {host} (the protocol has no password and no encryption)")
     if not port.isascii() or not port.isdigit() or not 0 <= int(port) < 65536:
         raise NoPlace(f"not a port: {port!r}")
     return LoopbackPort(host, int(port))

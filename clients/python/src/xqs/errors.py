@@ -13,9 +13,9 @@ SENTENCES = {
     "XPDY0050": "the root of the tree is not a document",
     "XPTY0004": "a value of a wrong type, or a wrong number of items",
     "XPTY0018": "a path gives nodes and atomic values together",
-    "XPTY0019": "what stands before a / is not nodes",
+    "XPTY0019": "the value before a / has items that are not nodes",
     "XPTY0020": "a step begins at an item that is not a node",
-    "XQTY0024": "an attribute stands after other content",
+    "XQTY0024": "an attribute comes after other content",
     "XQDY0025": "an element has two attributes of one name",
     "XQDY0026": "a processing instruction holds ?>",
     "XQDY0041": "the name of a processing instruction is not a name",
@@ -50,20 +50,21 @@ SENTENCES = {
     "prof:LONG": "the frame is over 1,048,832 bytes",
     "prof:ADDRESS": "the bytes are no address",
     "prof:ABSENT": "there is no document at that address",
-    "prof:NOTDOC": "what is to be stored is not exactly one document",
+    "prof:NOTDOC": "the query does not give exactly one document to store",
     # Codes of `xqs mux` itself; the last two come with status 2.
     "xqs:READONLY": "nothing can be stored or dropped here; the multiplexer runs with --read-only",
     "xqs:SECONDS": "the query took longer than the multiplexer allows (--seconds N, 0: any time)",
-    "xqs:MEMORY": "the server ended for want of memory at the request (--memory SIZE allows more)",
+    "xqs:MEMORY": "the request took so much memory that the server ended (--memory SIZE allows "
+    "more)",
     "xqs:LINE": "too many stores and drops wait for the server, or one has waited for too long; "
     "nothing has changed, the request may be sent again",
-    "xqs:DIFFER": "servers gave different replies, so nothing is stored or dropped any more; who "
-    "runs the multiplexer has to look at what it said",
+    "xqs:DIFFER": "servers gave different replies, so nothing is stored or dropped any more; the "
+    "multiplexer's messages say where the replies are",
     # Status 2.
     "memory": "the server ran out of memory (--memory SIZE allows more); nothing has changed, the "
     "request may be sent again",
     "store": "the server's database failed; look at the disk, then send the request again, and "
-    "start the server anew where every request fails so",
+    "restart the server if every request fails like this",
 }
 """The meaning of each code of status 1 and each word of status 2."""
 

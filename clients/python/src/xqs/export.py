@@ -87,7 +87,7 @@ class Exporter:
         if file in self._taken:
             raise NoPath(f"another document has the file {path}")
         if os.path.lexists(file) and not self._force:
-            raise NoPath(f"the file {path} is there already; --force replaces it")
+            raise NoPath(f"the file {path} exists already; --force replaces it")
         return file
 
     def export(self, address: str, prefix: str = "") -> Path:
@@ -144,15 +144,15 @@ def _parser() -> argparse.ArgumentParser:
     words = argparse.ArgumentParser(
         prog="xqs export",
         parents=[connection_options()],
-        description="Writes documents below a folder, each by its address. Each is of one moment; "
-        "all of them together are, where nobody stores or drops meanwhile.",
+        description="Writes documents below a folder, each by its address. Each is a consistent "
+        "snapshot; all of them together are one only if nobody stores or drops meanwhile.",
         epilog="Status 0: all are written; 1: some are refused, and listed with the reason.",
     )
     words.add_argument("folder", type=Path)
-    words.add_argument("--prefix", default="", help="those alone whose address begins so; it is "
-                       "left out of the names of files")
+    words.add_argument("--prefix", default="", help="only documents with this prefix, which the "
+                       "names of files leave out")
     words.add_argument("--form", choices=list(SUFFIX), default="xml")
     words.add_argument("--names", choices=[KEEP, FLAT], default=KEEP,
                        help="flat turns p__a back into p:a, as 'load --names flat' made it")
-    words.add_argument("--force", action="store_true", help="replace files that are there")
+    words.add_argument("--force", action="store_true", help="replace existing files")
     return words

@@ -94,7 +94,7 @@ class Filling:
             if self.left:  # A write that was in doubt turned out to be carried out.
                 continue
             if theirs != ours:
-                raise CannotFill(f"{len(ours)} addresses came of {len(theirs)}")
+                raise CannotFill(f"{len(ours)} addresses arrived of {len(theirs)}")
             self.count = len(ours)
             return
 
@@ -160,8 +160,8 @@ class Filling:
         theirs, ours = await asyncio.gather(self._source(_query(text)),
                                             self._ask(_query(text)))
         if theirs != ours and address not in self.left:
-            raise CannotFill(f"{path} has {ours[1:].decode()} nodes and attributes, where there "
-                             f"are {theirs[1:].decode()}")
+            raise CannotFill(f"{path} has {ours[1:].decode()} nodes and attributes, not "
+                             f"{theirs[1:].decode()}")
 
     async def _read(self, text: str) -> bytes | None:
         return await _value_of(self._source, text)

@@ -129,9 +129,9 @@ def why_not_opened(command: Sequence[str]) -> str:
 def _advice(path: Path, served: Sequence[Path | None]) -> str:
     """What to do about the processes that hold a file, some of which serve it under these names."""
     if served:
-        return ("`xqs serve` opens or ends it at this moment, so ask again, or has it by another "
-                f"name; `xqs stop {served[0] or path}` ends it")
-    return f"end that, or ask through it (`xqs serve {path}` serves a file to many)"
+        return ("`xqs serve` is opening or closing it, so try again, or serves it under another "
+                f"name; `xqs stop {served[0] or path}` ends that")
+    return f"end that process, or share the file (`xqs serve {path}` serves it to many clients)"
 
 
 def ended_at_start(command: Sequence[str], how: str) -> str:

@@ -218,4 +218,4 @@ def _decoded(data: bytes, source: str) -> str:
     except UnicodeDecodeError as error:
         before = data[: error.start].decode()
         place = line_and_column(before, len(before))
-        raise PlacedFault(source, *place, "these bytes are no utf-8") from None
+        raise PlacedFault(source, *place, "these bytes are not valid utf-8") from None

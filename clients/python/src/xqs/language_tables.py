@@ -45,9 +45,9 @@ FUNCTIONS: dict[str, tuple[int, int | None]] = {
     "ceiling": (1, 1),
     "round": (1, 1),
 }
-"""The functions: the least and the greatest number of arguments; None is any number."""
+"""The functions: the least and the greatest number of arguments of each; None: any."""
 TYPES = ("integer", "decimal", "string", "boolean", "untypedAtomic")
-"""The functions that are called with the prefix `xs:`."""
+"""The functions that are called after `xs:`."""
 NO_CALLS = frozenset((
     "array",
     "attribute",
@@ -68,7 +68,7 @@ NO_CALLS = frozenset((
     "text",
     "typeswitch",
 ))
-"""The names that can't be called without a prefix."""
+"""The names that no call has without a prefix."""
 GRAMMAR = r"""
 Expr ::= ExprSingle ("," ExprSingle)*
 Name ::= NAME | PREFIXED

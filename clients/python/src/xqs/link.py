@@ -96,7 +96,7 @@ class Link:
         try:
             return open_stream(self._origin.place, self._origin.bounds, timeout)
         except OSError as error:
-            raise Closed(f"the stream ended, and there is no other one: {error}") from error
+            raise Closed(f"the stream ended, and a new one can't be made: {error}") from error
 
     def _begin(self, stream: Stream) -> None:
         self._stream: Stream | None = stream
@@ -147,7 +147,7 @@ class Link:
                     stream.kill()
         except (protocol.FrameFault, KeyError) as error:
             stream.kill()
-            return cause or Cause.ITSELF, f"the stream is no server's ({error})"
+            return cause or Cause.ITSELF, f"the other end is not a server ({error})"
         except (OSError, ValueError) as error:
             return cause or Cause.ITSELF, f"the stream ended ({error})"
         return cause or Cause.ITSELF, "the stream ended"
@@ -247,5 +247,5 @@ class Link:
 
 
 def _unsent(request: Request) -> TimedOut:
-    return TimedOut("not sent in time, since the server takes nothing while it is at another "
-                    f"request: {request.shown[:SHOWN]}")
+    return TimedOut("not sent in time, because the server is busy with another request: "
+                    f"{request.shown[:SHOWN]}")

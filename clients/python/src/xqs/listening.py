@@ -46,7 +46,7 @@ def listen(where: str) -> socket.socket:
 def inherited() -> socket.socket:
     """The one socket that systemd passes at the start. Raises PlaceError."""
     if not _is_inherited(FIRST_INHERITED) or os.environ.get("LISTEN_FDS") != "1":
-        raise PlaceError(f"{SYSTEMD}: systemd has given no socket, or more than one")
+        raise PlaceError(f"{SYSTEMD}: systemd passed no socket, or more than one")
     os.set_inheritable(FIRST_INHERITED, False)
     listener = socket.socket(fileno=FIRST_INHERITED)
     is_own = listener.family == socket.AF_UNIX or listener.getsockname()[0] in LOOPBACK
@@ -92,7 +92,7 @@ def remove_stale(path: str) -> None:
     except FileNotFoundError:
         return
     if not stat.S_ISSOCK(mode):
-        raise PlaceError(f"unix:{path}: a file stands there that is no socket")
+        raise PlaceError(f"unix:{path}: there is a file that is no socket")
     with socket.socket(socket.AF_UNIX, socket.SOCK_STREAM) as probe:
         try:
             probe.connect(path)

@@ -210,18 +210,18 @@ def parser() -> argparse.ArgumentParser:
     words = argparse.ArgumentParser(
         prog="xqs load",
         parents=[connection_options()],
-        description="Stores the XML files below a folder, each under the folder's prefix and its "
-        "path. What is interrupted goes on where it stopped, when the same is called again.",
+        description="Stores the XML files below a folder, each under the prefix and its path. "
+        "After an interruption the same command resumes where it stopped.",
         epilog="Status 0: all are stored; 1: some are refused, and listed with reason and place.",
     )
     words.add_argument("folder", type=Path)
-    words.add_argument("--as", dest="prefix", default="", help="what addresses begin with")
+    words.add_argument("--as", dest="prefix", default="", help="the prefix of the addresses")
     words.add_argument(
         "--match", action="append", metavar="PATTERN", help=f"names of files (default {XML_FILES})"
     )
     xml_options(words)
-    words.add_argument("--journal", type=Path, help="where the journal lies, until all is done")
-    words.add_argument("--anew", action="store_true", help="begin anew in spite of a journal")
+    words.add_argument("--journal", type=Path, help="the file of the journal, until all is done")
+    words.add_argument("--anew", action="store_true", help="begin anew, even if there is a journal")
     return words
 
 
@@ -231,11 +231,12 @@ def xml_options(words: argparse.ArgumentParser) -> None:
         "--names",
         choices=[it.value for it in Names],
         default=Names.REFUSE.value,
-        help="names with a colon: refuse the file (default), flat (p:a as p__a, turned back by "
-        "'--names flat' on the way out), or local (a alone)",
+        help="names with a colon: refuse the file (default), flat (p:a as p__a, which '--names "
+        "flat' reverses on the way out), or local (only a)",
     )
-    words.add_argument("--strip", action="store_true", help="drop texts of white space")
-    words.add_argument("--entities", action="store_true", help="expand entities of the file's own")
+    words.add_argument("--strip", action="store_true", help="drop texts that are only white space")
+    words.add_argument("--entities", action="store_true",
+                       help="expand entities that the file declares")
 
 
 def xml_choices(given: argparse.Namespace) -> XmlChoices:
@@ -274,7 +275,7 @@ def main(words: Sequence[str]) -> int:
     except (Closed, KeyboardInterrupt) as error:
         journal.close()
         why = "interrupted" if isinstance(error, KeyboardInterrupt) else str(error)
-        print(f"xqs load: {why}; the same call goes on from here, by {journal.path}",
+        print(f"xqs load: {why}; the same command resumes from here, by {journal.path}",
               file=sys.stderr)
         return 1
     outcome.refused.update(search.refused)

@@ -126,7 +126,7 @@ def shown(request: Request) -> str:
     if request.kind == Kind.STORE and len(request.payload) > 1:
         text = text[1:1 + request.payload[1]]
     cut = ".." if len(text) > SHOWN else ""
-    kind = request.kind.decode("latin-1") or "a frame that is none"
+    kind = request.kind.decode("latin-1") or "an invalid frame"
     return f"{kind} {text[:SHOWN]!r}{cut}, {len(request.payload)} bytes"
 
 
@@ -151,7 +151,7 @@ def _requests(metrics: Metrics) -> list[str]:
     lines = _family(
         "xqs_replies_total", "counter", "Replies that left, by kind and status.", counts)
     name = "xqs_request_seconds"
-    lines += _head(name, "histogram", "From a request's coming to its reply's leaving.")
+    lines += _head(name, "histogram", "From the arrival of a request to the end of its reply.")
     for kind, times in metrics.times.items():
         lines += [f'{name}_bucket{{kind="{kind}",le="{bound}"}} {count}'
                   for bound, count in times.cumulated()]
@@ -168,10 +168,10 @@ def _servers(report: Report) -> list[str]:
     return [
         *_family("xqs_server_ready", "gauge", "Whether a server answers reads.",
                  each(lambda it: float(it.state == "ready"))),
-        *_family("xqs_server_frames", "gauge", "Frames that a server was sent since its start.",
+        *_family("xqs_server_frames", "gauge", "Frames sent to a server since its start.",
                  each(lambda it: it.frames)),
-        *_family("xqs_server_line", "gauge", "Requests that a server was given and has not "
-                 "answered.", each(lambda it: it.line)),
+        *_family("xqs_server_line", "gauge", "Requests that a server has not answered yet.",
+                 each(lambda it: it.line)),
         *_family("xqs_server_memory_bytes", "gauge", "Resident memory of a server.",
                  each(lambda it: it.memory)),
         *_family("xqs_server_restarts_total", "counter", "How often a server was started again.",

@@ -255,8 +255,8 @@ class Multiplexer:
 
     async def upgrade(self, command: Sequence[str], say: Callable[[str], Awaitable[None]]) -> None:
         """Raises Refused: only several servers can be upgraded."""
-        raise XqError("there is one server, which has to end before another program can take its "
-                      "place: start the multiplexer anew, or with --servers 2 or more")
+        raise XqError("a single server can't be upgraded while it runs: start the multiplexer "
+                      "anew, or with --servers 2 or more")
 
     async def stop(self) -> None:
         """Answers the frames that were read, disconnects the clients, and then ends the server."""

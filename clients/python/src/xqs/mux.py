@@ -65,7 +65,7 @@ def add_limits(parser: argparse.ArgumentParser) -> None:
     limit("--window", type=positive, metavar="N", default=DEFAULTS.window,
           help="frames of all clients that wait for replies (%(default)s)")
     limit("--frames", type=positive, metavar="N", default=DEFAULTS.frames,
-          help="start the server again after so many frames (%(default)s)")
+          help="start the server again after this number of frames (%(default)s)")
     add_servers(parser)
     add_client_limits(parser, DEFAULTS)
 
@@ -74,24 +74,24 @@ def add_servers(parser: argparse.ArgumentParser) -> None:
     """Adds the options for several servers."""
     option = parser.add_argument_group("servers").add_argument
     option("--servers", type=positive, metavar="N", default=default_servers(),
-           help="servers that hold the same documents: reads run side by side, and one that ends "
-           "is replaced while the others answer (%(default)s; the processors less one, at most "
+           help="servers that hold the same documents: reads run in parallel, and one that ends is "
+           "replaced while the others answer (%(default)s; one less than the processors, at most "
            f"{MOST_SERVERS})")
     add_kept(option)
     option("--line", type=positive, metavar="N", default=DEFAULTS.line,
            help="stores and drops that wait for the server with the file (%(default)s)")
     option("--line-seconds", type=duration, metavar="N", default=DEFAULTS.line_seconds,
-           help="how long one of them waits while that is started again (%(default)g)")
+           help="how many seconds one of them waits while that server starts again (%(default)g)")
     option("--compare", type=natural, metavar="N", default=DEFAULTS.compare,
-           help="one of so many reads is asked of all servers, and where they differ nothing is "
+           help="one read in this number goes to all servers; if their replies differ nothing is "
            "stored any more (%(default)s; 0: none)")
 
 
 def add_kept(option: Callable[..., argparse.Action]) -> None:
     """Adds the option for the memory that all servers may use for what they have read."""
     option("--kept", type=megabytes, metavar="MB", default=KEPT,
-           help="megabytes that all servers together keep of what queries have read, for the next "
-           "ones, in equal shares (%(default)s; 0: what each keeps by itself)")
+           help="megabytes of cache for what queries have read, of all servers together, in equal "
+           "shares (%(default)s; 0: as much as each has by itself)")
 
 
 def megabytes(text: str) -> int:
@@ -135,7 +135,7 @@ def add_client_limits(parser: argparse.ArgumentParser, defaults: Settings) -> No
     limit("--held", type=positive, metavar="BYTES", default=defaults.held,
           help="all unread replies above which the client with most is cut off (%(default)s)")
     limit("--stall", type=duration, metavar="SECONDS", default=defaults.stall,
-          help="cut off a client that takes nothing of its replies for so long (%(default)g)")
+          help="cut off a client that reads no reply for this long (%(default)g)")
     parser.add_argument("--read-only", action="store_true", help="refuse stores and drops")
 
 
@@ -231,7 +231,7 @@ async def figures_at(where: str, multiplexer: Multiplexing) -> AsyncIterator[Non
 def in_memory_warning(servers: int) -> str:
     """The message if no file is named."""
     end = "whenever the server ends" if servers == 1 else "when all servers end at once"
-    return f"the documents live in memory: they are lost {end}"
+    return f"the documents are in memory: they are lost {end}"
 
 
 def command_of(words: Sequence[str], given: argparse.Namespace) -> Sequence[str]:
@@ -257,13 +257,12 @@ def main(words: Sequence[str] | None = None) -> int:
         parents=[connection_options(kept=False)],
     )
     parser.add_argument("place", metavar="unix:PATH|tcp:PORT|systemd:",
-                        help="where clients connect; systemd: is the socket that systemd gives")
+                        help="where clients connect; systemd: is the socket that systemd passes")
     parser.add_argument("--upgrade", action="store_true",
-                        help="have the multiplexer that runs at the place take over this command, "
-                        "server by server, and refuse it where it answers otherwise")
+                        help="upgrade the multiplexer that runs at the place to this command, "
+                        "server by server, unless its answers differ")
     parser.add_argument("--metrics", metavar="[HOST:]PORT",
-                        help="a port of loopback where HTTP has /metrics, as Prometheus reads it, "
-                        "and a page")
+                        help="a loopback port for HTTP with /metrics, for Prometheus, and a page")
     add_limits(parser)
     given = parser.parse_args(before)
     command = command_of(after, given)

@@ -162,7 +162,7 @@ class Backend:
         for message in messages:
             self._answered += 1
             if not self.in_flight or protocol.tag_of(message) != self._answered:
-                raise protocol.FrameFault("a reply that no request awaits")
+                raise protocol.FrameFault("a reply without a request")
             request = self.in_flight.popleft()
             self.last_work = self.worked()
             self._watch_front()

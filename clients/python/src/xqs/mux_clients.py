@@ -76,7 +76,7 @@ class Clients:
         """Serves one connection until it ends; `asyncio.start_server` calls this."""
         if self._stopping or len(self._peers) >= self._settings.clients:
             if not self._stopping:
-                self._say(f"a client more than {self._settings.clients}: it is turned away")
+                self._say(f"one client more than {self._settings.clients}: it is turned away")
             writer.close()
             return
         peer = Peer(reader, writer, self._settings.client_window, self._settings.unread,

@@ -92,9 +92,9 @@ def ask_upgrade(place: str, command: Sequence[str]) -> int:
         for line in control.ask(place, f"upgrade {json.dumps(words)}", None):
             print(f"xqs mux: {line}", file=sys.stderr, flush=True)
     except control.Refused as error:
-        raise NotUpgraded(f"the program is not taken over, and the one before goes on: {error}"
+        raise NotUpgraded(f"the upgrade is refused, and the old program goes on: {error}"
                           ) from error
-    print("xqs mux: the program is taken over", file=sys.stderr)
+    print("xqs mux: all servers are upgraded", file=sys.stderr)
     return 0
 
 
@@ -102,8 +102,8 @@ def status_main(words: Sequence[str]) -> int:
     """Carries out `xqs status`."""
     parser = argparse.ArgumentParser(
         prog="xqs status",
-        description="Says how the multiplexer does that listens at a place: its servers, clients, "
-        "lines and times.")
+        description="Shows the status of the multiplexer that listens at a place: its servers, "
+        "clients, queues and times.")
     parser.add_argument("place", metavar="unix:PATH|tcp:PORT|FILE",
                         help="where its clients connect, or the file that `xqs serve` serves")
     parser.add_argument("--metrics", action="store_true",

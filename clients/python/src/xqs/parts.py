@@ -245,7 +245,7 @@ class DocumentText:
             case Close():
                 self.close()
             case Atom() | _:
-                raise NotADocument("what is to be stored is not exactly one document")
+                raise NotADocument("the value is not exactly one document")
 
     def take_parts(self) -> list[Part]:
         """The parts to store next, in this order."""

@@ -49,7 +49,7 @@ def path_of(address: str) -> PurePosixPath:
     """
     path = _ESCAPED.sub(_character, address)
     if _TO_ESCAPE.sub(_by_number, path) != address:
-        raise NoPath(f"{address} has an escape that its file would not be loaded with")
+        raise NoPath(f"{address} has an escape that would be lost if its file were loaded")
     names = path.split("/")
     if "" in names or "." in names or ".." in names or "\0" in path:
         raise NoPath(f"{address} is no path below a folder")

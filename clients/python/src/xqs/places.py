@@ -182,7 +182,8 @@ def _no_token(found: Iterable[Token]) -> Place | None:
         if token.kind == "other":
             return Place(token.at, f"no token begins with {token.text!r}")
         if before and before.kind == "number" and _follows_number(before, token):
-            return Place(token.at, f"{_shown(token)} follows a number at once; a space parts them")
+            return Place(token.at, f"{_shown(token)} follows a number directly; put a space "
+                         "between them")
         before = token
     return None
 
@@ -228,7 +229,7 @@ def _bracket(found: list[Token]) -> Place | None:
                 return Place(token.at, f"this {token.text} closes nothing")
             opened = stack.pop()
             if opened.text != _PAIRS[token.text]:
-                return Place(token.at, f"this {token.text} stands where a {opened.text} is open")
+                return Place(token.at, f"this {token.text} doesn't close the open {opened.text}")
     return Place(stack[-1].at, f"this {stack[-1].text} is not closed") if stack else None
 
 

@@ -82,15 +82,15 @@ def utf8(text: str) -> bytes:
     try:
         return text.encode()
     except UnicodeEncodeError as error:
-        raise NoText(f"the text has no UTF-8: character {error.start + 1} is half a pair of "
-                     "surrogates") from error
+        raise NoText(f"the text has no UTF-8: character {error.start + 1} is an unpaired "
+                     "surrogate") from error
 
 
 def frame(tag: int, kind: Kind, body: bytes = b"") -> bytes:
     """The frame of a request. Raises FrameFault if it would be above the limit."""
     length = len(body) + 5
     if length > MAX_REQUEST:
-        raise FrameFault(f"a request of {length:,} bytes, of which {MAX_REQUEST:,} are allowed")
+        raise FrameFault(f"a request of {length:,} bytes, over the limit of {MAX_REQUEST:,}")
     return _REQUEST_HEAD.pack(length, tag, kind.value) + body
 
 
@@ -107,7 +107,7 @@ def framed(message: bytes) -> bytes:
 def tag_of(message: bytes) -> int:
     """The tag of a message. Raises FrameFault if it is too short for one."""
     if len(message) < 5:
-        raise FrameFault(f"a message of {len(message)} bytes, which has no room for a tag")
+        raise FrameFault(f"a message of {len(message)} bytes, too short for a tag")
     tag: int = _LENGTH.unpack_from(message)[0]
     return tag
 

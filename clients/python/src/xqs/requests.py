@@ -188,7 +188,7 @@ def _text(request: Request, message: bytes) -> str:
     try:
         text = message[5:].decode()
     except UnicodeDecodeError as error:
-        raise Closed(f"the stream is no server's: a reply that is not UTF-8 ({error})") from error
+        raise Closed(f"the other end is not a server: a reply is not UTF-8 ({error})") from error
     match message[4]:
         case Status.DONE:
             return text

@@ -69,17 +69,17 @@ def _parser() -> argparse.ArgumentParser:
     parser = argparse.ArgumentParser(
         prog="xqs serve", usage=USAGE, parents=[connection_options(file=False, kept=False)],
         description="Serves a file in the background, by a socket beside it (FILE.sock): each "
-        "command with --file FILE then asks there, and opens nothing anew. `xqs stop FILE` ends "
+        "command with --file FILE then connects to it and starts no server. `xqs stop FILE` ends "
         "it.")
     parser.add_argument("path", type=Path, metavar="FILE", help="the file of the documents")
     parser.add_argument("--foreground", action="store_true",
-                        help="stay, and end by a signal, as under a service manager")
+                        help="stay in the foreground, as under a service manager")
     parser.add_argument("--wait", type=bounds.seconds_of, metavar="N", default=BEGIN_SECONDS,
-                        help="how long the file may take to be opened (%(default)g seconds; 0: any "
+                        help="how long opening the file may take (%(default)g seconds; 0: any "
                         "time)")
     parser.add_argument("--log", type=Path, metavar="LOG",
-                        help="where it writes what it says in the background, the last megabyte "
-                        "(a file in ~/.local/state/xqs)")
+                        help="the file for its messages in the background, the last megabyte of "
+                        "them (a file in ~/.local/state/xqs)")
     parser.add_argument(BACKGROUND, action="store_true", help=argparse.SUPPRESS)
     mux.add_limits(parser)
     return parser
@@ -205,13 +205,13 @@ def cut_log(log: Path) -> None:
 def stop_main(words: Sequence[str]) -> int:
     """Runs `xqs stop`. Raises NotServed, NotEnded."""
     parser = argparse.ArgumentParser(
-        prog="xqs stop", description="Ends what `xqs serve` has begun, once it has answered what "
-        "it was asked before, and waits for that.")
+        prog="xqs stop", description="Ends the background server of `xqs serve`, once it has "
+        "answered its requests, and waits for its end.")
     parser.add_argument("path", type=Path, metavar="FILE", help="the file that is served")
     parser.add_argument("--now", action="store_true",
-                        help="end what it is at, too; a store under way may be carried out or not")
+                        help="end its requests too; a store under way may be carried out or not")
     parser.add_argument("--wait", type=bounds.seconds_of, metavar="N", default=END_SECONDS,
-                        help="how long its end is awaited (%(default)g seconds; 0: any time)")
+                        help="how long to wait for its end (%(default)g seconds; 0: any time)")
     given = parser.parse_args(words)
     place = UnixSocket(str(socket_path(given.path)))
     _end(given.path, place, given.now, given.wait)
@@ -230,8 +230,8 @@ def _end(path: Path, place: UnixSocket, is_now: bool, seconds: float | None) -> 
     poller = select.poll()
     poller.register(ended, select.POLLIN)
     if not poller.poll(None if seconds is None else seconds * 1000):
-        raise NotEnded(f"{path} is served still after {seconds:g} seconds, since process {process} "
-                       f"is at a request: `xqs stop --now {path}` ends that too, --wait N waits "
+        raise NotEnded(f"{path} is still served after {seconds:g} seconds, since process {process} "
+                       f"works on a request: `xqs stop --now {path}` ends that too, --wait N waits "
                        "longer")
     os.close(ended)
 

@@ -72,9 +72,9 @@ def socket_path(file: Path) -> Path:
     longest = len(os.fsencode(control.control_path(f"unix:{path}")))
     if longest > LONGEST_PATH:
         over = longest - LONGEST_PATH
-        raise NoSocket(f"{path}: a socket's path is {LONGEST_PATH} bytes long at most, and this is "
-                       f"{over} too long, with .control behind it: move the file to a folder with "
-                       "a shorter path")
+        raise NoSocket(f"{path}: a socket's path may have {LONGEST_PATH} bytes, and this one, with "
+                       f".control after it, has {over} too many: move the file to a folder with a "
+                       "shorter path")
     return path
 
 
@@ -93,10 +93,10 @@ def socket_of(file: Path) -> UnixSocket | None:
     identity = _identity_at(place)
     if identity is None:
         raise NotThisFile(f"{path}: something listens there that doesn't say which file it serves; "
-                          "end it, or take the socket away")
+                          "end it, or remove the socket")
     if identity != Identity.of(file):
-        raise NotThisFile(f"{file} is not the file any more that is served at {path}: it was moved "
-                          f"or replaced meanwhile; `xqs stop {file}` ends that server")
+        raise NotThisFile(f"{path} serves another file than {file}, which was moved or replaced "
+                          f"meanwhile; `xqs stop {file}` ends that server")
     return place
 
 

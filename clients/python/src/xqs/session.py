@@ -31,8 +31,8 @@ _YES = "--yes"
 
 
 _HELP = (
-    "QUERY                     its value; Enter carries it out once it is whole, else it goes on",
-    "                          in the next line; an empty line or ; ends it in any case",
+    "QUERY                     its value; Enter runs it if it is whole, else it continues in the",
+    "                          next line; an empty line or ; ends it in any case",
     "Ctrl+C                    ends the query that runs",
 )
 
@@ -87,7 +87,7 @@ class Session:
         documents in memory, they go on, and a message says so."""
         if not (self._client.is_busy and self._client.is_losing):
             return ""
-        return "the server is at it still, since documents in its memory would be lost"
+        return "the query goes on, since ending it would lose documents in the server's memory"
 
     def wait(self) -> None:
         """Waits for the end of the requests under way."""

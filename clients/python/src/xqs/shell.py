@@ -47,7 +47,7 @@ def main(words: Sequence[str]) -> int:
         if not sys.stdin.isatty():
             return _run_lines(session, sys.stdin)
         print(f"{client.place}; .help says more" + (
-            "" if is_lasting(place) else "; the documents are gone at the end"))
+            "" if is_lasting(place) else "; the documents are lost at the end"))
         for text in _typed(session, given.plain):
             _run_typed(session, text)
             if session.is_ended:
@@ -81,13 +81,13 @@ def _parser() -> argparse.ArgumentParser:
     words = argparse.ArgumentParser(
         prog="xqs shell",
         parents=[connection_options()],
-        description="Asks queries by hand. A query runs at Enter once it is whole, else it goes on "
-        "in the next line; an empty line or ; ends it. .help lists the commands.",
+        description="A shell for queries. Enter runs a query if it is whole, else it continues in "
+        "the next line; an empty line or ; ends it. .help lists the commands.",
     )
-    words.add_argument("-c", "--command", help="carry out this query or command, and end")
-    words.add_argument("--xml", action="store_true", help="begin with nodes as XML")
+    words.add_argument("-c", "--command", help="run this query or command, and end")
+    words.add_argument("--xml", action="store_true", help="show nodes as XML from the start")
     words.add_argument("--names", choices=["keep", "flat"], default="keep",
-                       help="flat turns p__a into p:a where nodes are XML")
+                       help="flat shows p__a as p:a in XML")
     words.add_argument("--plain", action="store_true", help="don't use prompt_toolkit")
     words.add_argument("--pager", action=argparse.BooleanOptionalAction, default=True,
                        help="show long replies by $PAGER, on a terminal")

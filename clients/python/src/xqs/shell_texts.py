@@ -20,17 +20,17 @@ class Command:
 
 
 COMMANDS = {
-    ".list": Command("[PREFIX]", "the addresses that begin so, or match a pattern", 0, 1),
+    ".list": Command("[PREFIX]", "the addresses with a prefix, or that match a pattern", 0, 1),
     ".get": Command("ADDRESS", "a document, of any length", 1, 1),
     ".store": Command("ADDRESS FILE", "store a file of XML, or of a query", 2, 2),
-    ".drop": Command("[--yes] ADDRESS ..", "drop documents; of a pattern all, after a question",
-                     1, 1_000_000),
+    ".drop": Command("[--yes] ADDRESS ..",
+                     "drop documents, or after a question all that match a pattern", 1, 1_000_000),
     ".load": Command("DIR [PREFIX]", "store the XML files of a folder", 1, 2),
     ".export": Command("DIR [PREFIX]", "write documents to a folder as XML", 1, 2),
-    ".names": Command("refuse|flat|local", "what becomes of names with a colon", 1, 1),
+    ".names": Command("refuse|flat|local", "what happens to names with a colon", 1, 1),
     ".xml": Command("on|off", "nodes as XML, or as constructors", 1, 1),
     ".timing": Command("on|off", "say how long each answer takes", 1, 1),
-    ".read": Command("FILE", "carry out the queries and commands of a file", 1, 1),
+    ".read": Command("FILE", "run the queries and commands of a file", 1, 1),
     ".help": Command("", "this list", 0, 0),
     ".quit": Command("", "end; so does Ctrl+D", 0, 0),
 }

@@ -26,7 +26,7 @@ def lxml_etree() -> ModuleType:
     try:
         return importlib.import_module("lxml.etree")
     except ImportError as error:
-        raise NoTree("this wants lxml (Debian: python3-lxml), which is not installed") from error
+        raise NoTree("this needs lxml (Debian: python3-lxml), which is not installed") from error
 
 
 def to_element(node: Node) -> ElementTree.Element:

@@ -63,8 +63,8 @@ async def check(source: Replica, other: Replica, sample: Sequence[bytes]) -> Non
         theirs, ours = await asyncio.gather(source.ask(payload), other.ask(payload))
         if theirs != ours and Status.WANTING not in (theirs[0], ours[0]):
             raise AnswersOtherwise(
-                f"it answers otherwise: {payload[:SHOWN].decode(errors='replace')!r} by "
-                f"{ours[:SHOWN].decode(errors='replace')!r}, and not by "
+                f"its answer differs: {payload[:SHOWN].decode(errors='replace')!r} gives "
+                f"{ours[:SHOWN].decode(errors='replace')!r}, not "
                 f"{theirs[:SHOWN].decode(errors='replace')!r}")
 
 
@@ -76,7 +76,7 @@ async def upgrade(servers: "ManyServers", command: Sequence[str],
     differently from the running ones: then all go on with the old command.
     """
     if servers.is_upgrading:
-        raise NotUpgraded("another program is being taken over already")
+        raise NotUpgraded("another upgrade is under way")
     before, replicas = servers.command, servers.replicas
     _check_file(before, command)
     servers.is_upgrading = True
@@ -89,11 +89,11 @@ async def upgrade(servers: "ManyServers", command: Sequence[str],
             await say(f"{replica.name} runs it")
         servers.command = list(command)
     except NotUpgraded as error:
-        servers.note(f"the program is not taken over: {error}")
+        servers.note(f"the upgrade is refused: {error}")
         for replica in changed:
             if replica.command != before:
                 replica.command, replica.is_new, replica.failure = before, False, None
-                await servers.leave(replica, "back to the program before")
+                await servers.leave(replica, "back to the old program")
         raise
     finally:
         servers.is_upgrading = False
@@ -109,7 +109,7 @@ def _check_file(before: Sequence[str], command: Sequence[str]) -> None:
 
 async def _change(servers: "ManyServers", replica: Replica, command: Sequence[str]) -> None:
     replica.command, replica.is_new, replica.failure = list(command), True, None
-    if not await servers.leave(replica, "another program takes its place"):
+    if not await servers.leave(replica, "another program replaces it"):
         raise NotUpgraded("no other server holds the documents now: try again later")
     failure: Exception | None = replica.failure
     if failure is None and replica.state is not State.READY:

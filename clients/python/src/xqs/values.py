@@ -254,7 +254,7 @@ def items(text: str) -> Iterator[Item]:
             case Atom(atom):
                 yield atom
     if stack:
-        raise Misspelt("a printed value that is cut")
+        raise Misspelt("a printed value that is cut short")
 
 
 def values(text: str) -> list[Item]:

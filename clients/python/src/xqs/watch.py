@@ -96,8 +96,8 @@ class Watch(Generic[F]):
         if self.is_started:
             return Cause.OVERDUE
         shown = front.request.shown[:SHOWN]
-        front.fail(TimedOut(f"no reply for {front.seconds:g} seconds; the server may be at it "
-                            f"still (the request was: {shown})"))
+        front.fail(TimedOut(f"no reply for {front.seconds:g} seconds; the server may still work "
+                            f"on it (the request was: {shown})"))
         return None
 
     def told_end(self, cause: Cause, why: str, waiting: list[Waiting[F]],

@@ -137,18 +137,18 @@ def parser() -> argparse.ArgumentParser:
     )
     option = result.add_argument
     option("--listen", metavar="[HOST:]PORT", default="127.0.0.1:8984",
-           help="the port of loopback (%(default)s)")
+           help="the loopback port (%(default)s)")
     option("--token-file", metavar="F", type=Path,
-           help="allow stores and drops to whoever sends the token in this file, which is made "
-           "where it is not there; without it there are none")
+           help="allow stores and drops to clients that send the token in this file, which is made "
+           "if it doesn't exist; without it there are none")
     option("--host", metavar="NAME", action="append", default=[],
-           help="another name of this server, as behind a proxy")
+           help="another host name of this server, as behind a proxy")
     option("--origin", metavar="ORIGIN", action="append", default=[], type=origin_of,
            help="a page of that origin, as https://app.example, may ask with the token")
     option("--names", choices=[it.value for it in Names], default=DEFAULTS.names.value,
-           help="what becomes of names with a colon, where a request does not say it")
+           help="what happens to names with a colon, unless a request says it")
     option("--body", type=positive, metavar="BYTES", default=DEFAULTS.body,
-           help="the most bytes of a document that is put (%(default)s)")
+           help="the most bytes of a document in a PUT (%(default)s)")
     option("--wait", type=duration, metavar="SECONDS", default=DEFAULTS.wait,
            help="how long the next piece of a body or an answer may take (%(default)g)")
     option("--head", type=duration, metavar="SECONDS", default=DEFAULTS.head,
@@ -156,10 +156,10 @@ def parser() -> argparse.ArgumentParser:
     option("--connections", type=positive, metavar="N", default=DEFAULTS.connections,
            help="connections at once (%(default)s); the one that has waited longest is closed")
     option("--answers", type=positive, metavar="BYTES", default=DEFAULTS.held,
-           help="all answers that wait for their clients, on the disk; above it the client with "
-           "most to read is cut off (%(default)s)")
+           help="bytes of all answers that wait for their clients, on the disk; above that the "
+           "client with most to read is cut off (%(default)s)")
     option("--requests", type=positive, metavar="N", default=DEFAULTS.requests,
-           help="requests that are carried out at once (%(default)s)")
+           help="requests that run at once (%(default)s)")
     add_limits(result)
     return result
 
@@ -174,7 +174,7 @@ def main(words: Sequence[str] | None = None) -> int:
     given = parser().parse_args(before)
     place = asked_at(Command(tuple(command)) if command else server_of(given))
     if given.origin and not given.token_file:
-        raise ValueError("--origin wants --token-file: a page of elsewhere asks with the token")
+        raise ValueError("--origin needs --token-file: another site's page must send the token")
     token = read_token(given.token_file) if given.token_file else None
     options = replace(
         DEFAULTS, hosts=NAMES | {name.lower() for name in given.host},

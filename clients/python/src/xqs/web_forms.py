@@ -38,7 +38,7 @@ def chosen(accept: str | None, offered: Sequence[str]) -> str:
     ranked = [(_quality(wishes, form), -at) for at, form in enumerate(offered)]
     quality, at = max(ranked)
     if quality <= 0:
-        raise HttpRefusal(406, "xqs:ACCEPT", f"it can be had as {', '.join(offered)}")
+        raise HttpRefusal(406, "xqs:ACCEPT", f"the available forms are {', '.join(offered)}")
     return offered[-at]
 
 

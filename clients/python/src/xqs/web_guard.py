@@ -63,7 +63,7 @@ def check_guest(headers: Mapping[str, str], token: str | None) -> None:
     is_bearer = given.partition(" ")[0].lower() == "bearer"
     if token is None or not is_bearer or not _is_token(given, token):
         raise HttpRefusal(
-            401, "xqs:TOKEN", "a page of elsewhere has to send Authorization: Bearer TOKEN",
+            401, "xqs:TOKEN", "another site's page must send Authorization: Bearer TOKEN",
             {"WWW-Authenticate": 'Bearer realm="xqs"'},
         )
 
@@ -88,7 +88,7 @@ def check_origin(method: str, path: str, headers: Mapping[str, str]) -> None:
     site = headers.get("Sec-Fetch-Site")
     is_visit = path == "/" and method in READS and headers.get("Sec-Fetch-Mode") == "navigate"
     if site is not None and site not in OWN_PAGES and not is_visit:
-        raise HttpRefusal(403, "xqs:ORIGIN", f"a page of elsewhere has asked ({site})")
+        raise HttpRefusal(403, "xqs:ORIGIN", f"another site's page has asked ({site})")
     origin = headers.get("Origin")
     scheme, _, place = (origin or "").partition("://")
     if origin is not None and (scheme not in ("http", "https") or place != headers.get("Host")):
@@ -105,8 +105,8 @@ def check_token(method: str, given: str | None, token: str | None) -> None:
         )
     if not _is_token(given or "", token):
         raise HttpRefusal(
-            401, "xqs:TOKEN", "a store or a drop wants Authorization: Bearer TOKEN, or Basic with "
-            "the token for a password", {"WWW-Authenticate": 'Bearer realm="xqs"'},
+            401, "xqs:TOKEN", "a store or a drop needs Authorization: Bearer TOKEN, or Basic with "
+            "the token as its password", {"WWW-Authenticate": 'Bearer realm="xqs"'},
         )
 
 
@@ -147,7 +147,7 @@ def _token_of(path: Path) -> str:
         mode = stat.S_IMODE(os.fstat(file.fileno()).st_mode)
         token = file.read(1 << 12).decode("utf-8", "replace").strip()
     if mode & 0o077:
-        raise TokenFault(f"{path}: others may read it (mode {mode:04o}); chmod 600 mends that")
+        raise TokenFault(f"{path}: others may read it (mode {mode:04o}); chmod 600 repairs that")
     if len(token) < LEAST_TOKEN or not token.isascii() or not token.isprintable() or " " in token:
         raise TokenFault(
             f"{path}: a token is one line of {LEAST_TOKEN} or more visible ASCII characters")

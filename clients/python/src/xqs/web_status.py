@@ -67,7 +67,7 @@ def refusal_of(error: Exception, changes: bool) -> HttpRefusal | None:
         case KeptAddress():
             return HttpRefusal(403, "xqs:TEMPORARY", str(error))
         case FolderFault():
-            refusal = HttpRefusal(BAD, "xqs:FOLDER", "no documents of a folder can be put in")
+            refusal = HttpRefusal(BAD, "xqs:FOLDER", "the documents of a folder can't be put in")
             return _at(refusal, error.text, error.at, error.why)
         case PrefixFault():
             refusal = HttpRefusal(BAD, "xqs:NAMES", "a name has no flat name")

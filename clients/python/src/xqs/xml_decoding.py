@@ -116,7 +116,7 @@ def encoding_of(head: bytes, charset: str | None = None) -> tuple[str, int]:
     if charset is not None:
         found = codec_of(charset.strip(" \t\"'"))
         if not found:
-            raise EncodingFault(f"the charset {charset!r} of the transport is not known")
+            raise EncodingFault(f"the charset {charset!r} of the transport is unknown")
         return _with_order(found, begins), 0
     return _declared(head, begins), 0
 
@@ -144,7 +144,7 @@ def _declared(head: bytes, begins: str) -> str:
         raise _at_name(f"the encoding {name} is not known", head, begins, name)
     found = _with_order(found, begins)
     if "<?xml".encode(found) != "<?xml".encode(begins):
-        why = f"the declaration says {name}, and the bytes are not so"
+        why = f"the declaration says {name}, but the bytes contradict it"
         raise _at_name(why, head, begins, name)
     return found
 

@@ -78,7 +78,7 @@ class Doctype:
 
     def _declared_entity(self, name: str, is_parameter: bool, *_: object) -> None:
         if not is_parameter:
-            why = f"the entity {name} is declared here; entities have to be asked for"
+            why = f"the entity {name} is declared here; only --entities expands it"
             self._refuse(EntityFault(why))
 
     def _noted_entity(self, name: str, is_parameter: bool, text: str | None, *_: object) -> None:
@@ -87,7 +87,7 @@ class Doctype:
             self._entities.setdefault(name, [it.decode() for it in references])
 
     def _skipped_entity(self, name: str, _: bool) -> None:
-        self._refuse(f"the entity {name} is declared outside of this text, which is not read")
+        self._refuse(f"the entity {name} is declared outside this text, which is not read")
 
     def _external_entity(
         self, context: str | None, _: str | None, place: str | None, __: str | None
@@ -95,4 +95,4 @@ class Doctype:
         if context is None:
             # An external part of the document type, as one with a public name: it isn't read.
             return 1
-        self._refuse(f"the entity stands outside of this text, at {place}, which is not read")
+        self._refuse(f"the entity is outside this text, at {place}, which is not read")

@@ -42,7 +42,7 @@ def incoming(choice: Names) -> Callable[[str], str]:
 def _refused(name: str) -> str:
     if ":" in name or name == NAMESPACE:
         raise NameFault(
-            f"the name {name} wants namespaces, which the server doesn't have; "
+            f"the name {name} needs namespaces, which the server doesn't have; "
             "the choices 'flat' and 'local' take it"
         )
     return name
@@ -57,7 +57,7 @@ def _flat(name: str) -> str:
         return name
     prefix, local = _halves(name)
     if prefix.endswith("_"):
-        raise NameFault(f"the prefix of {name} ends in _, so that flat names can't keep it apart")
+        raise NameFault(f"the prefix of {name} ends in _, so its flat names would be ambiguous")
     return prefix + FLAT_COLON + local
 
 

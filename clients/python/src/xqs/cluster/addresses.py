@@ -51,8 +51,8 @@ def check_ways(address: LogAddress, is_plain_taken: bool) -> None:
     for broker in address.brokers:
         parts = urllib.parse.urlsplit(broker)
         if parts.scheme != "amqps" and not _is_here(parts.hostname or ""):
-            raise ValueError(f"{shown(broker)} is another machine: name it by amqps://, or give "
-                             "--plain where the network is yours alone")
+            raise ValueError(f"{shown(broker)} is another machine: use amqps://, or give --plain "
+                             "if the network is yours alone")
 
 
 def _is_here(host: str) -> bool:
@@ -87,7 +87,7 @@ def _censored(text: str) -> str:
 def _name(parts: urllib.parse.SplitResult) -> str:
     name = urllib.parse.unquote(parts.path.removeprefix("/"))
     if not 1 <= len(name.encode()) <= 200 or "/" in name:
-        raise ValueError(f"the address of a log wants its name: amqp://{parts.hostname}/NAME")
+        raise ValueError(f"the address of a log needs its name: amqp://{parts.hostname}/NAME")
     return name
 
 

@@ -128,7 +128,7 @@ class Agreement:
             return ""
         self._told.add((other.node, other.program))
         return (f"node {other.node} runs the program {other.program}, and this one "
-                f"{self._program}: their sums are alike so far")
+                f"{self._program}: their sums are equal so far")
 
     def _said(self, other: Report) -> str:
         return f"at place {other.place} {self._own[other.place]}, and {other}"

@@ -27,7 +27,7 @@ PAUSE, LONGEST_PAUSE = 0.2, 2.0
 AGAIN_TOLD = 60.0
 """Seconds after which a loss for the same reason is reported again."""
 OFFSET = "x-stream-offset"
-NO_STREAM = "what has the log's name is a queue and no stream: name another log"
+NO_STREAM = "the log's name is that of a queue, not a stream: name another log"
 NO_COPY = "this broker has no copy of the log that runs"
 _NO_REPLICA = "replica"
 """The engine's message if a broker has no copy."""
@@ -144,7 +144,7 @@ class Link:
 
     async def close(self) -> None:
         """Ends the connection."""
-        self.drop("it is not wanted any more")
+        self.drop("it is no longer needed")
         await self._disconnect()
 
 

@@ -279,8 +279,8 @@ class Follower:
         if worked <= seconds:
             return
         if isinstance(front, Entry):
-            self._aside[front.place] = (f"the entry of place {front.place:,} held its server for "
-                                        f"over {entry_seconds:g} seconds")
+            self._aside[front.place] = (f"the entry of place {front.place:,} occupied its server "
+                                        f"for over {entry_seconds:g} seconds")
         self.backend.overdue = front
         self.backend.kill()
 
@@ -292,8 +292,8 @@ class Follower:
         place = self.state.place + 1
         hint = ""
         if self.may_return:
-            hint = (f"; it goes on from a later snapshot of another node, once that is in its "
-                    f"folder, or where all nodes skip the entry (xqs node --skip {place})")
+            hint = (f"; it goes on when a later snapshot of another node is in its folder, or when "
+                    f"all nodes skip the entry (xqs node --skip {place})")
         self.say(f"{self.name} steps aside, and no longer follows the log, at {self.state}: "
                  f"{why}; reads are answered with the documents of that place{hint}")
         self._reads.changed()
@@ -378,8 +378,8 @@ class Follower:
         if first > self.state.offset + 1:
             raise CannotFollow(
                 f"the log {self.log.name} begins at offset {first}, and the documents are of "
-                f"{self.state}: what lies between is no longer there, so begin from a later "
-                "snapshot, which another node has")
+                f"{self.state}: the entries between are no longer there, so begin from a later "
+                "snapshot of another node")
 
     async def _take(self, offset: int, message: bytes) -> None:
         """Takes a message; leaves out one that was taken before. Raises Ended at an end."""

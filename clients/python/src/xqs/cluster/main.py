@@ -186,39 +186,39 @@ def _parser() -> argparse.ArgumentParser:
     parser = argparse.ArgumentParser(
         prog="xqs node", usage=USAGE, parents=[connection_options(bounded=False, kept=False)],
         description="Serves clients by servers that follow a replicated log of stores and drops: "
-        "all nodes of one log answer alike. docs/CLUSTER.md says how one is set up.")
+        "all nodes of one log give the same answers. docs/CLUSTER.md says how to set it up.")
     option = parser.add_argument
     option("--log", metavar="amqp://HOST/NAME[,..]",
            help=f"the brokers that keep the log, and its name; else ${VARIABLE}")
     option("--listen", metavar="unix:PATH|tcp:PORT", help="where clients connect")
     option("--name", default=socket.gethostname(), metavar="NAME",
-           help="how others call this node; each has another one (%(default)s)")
+           help="the name of this node, which no other node has (%(default)s)")
     option("--snapshots", type=pathlib.Path, metavar="DIR",
            help="the folder of this node's snapshots, from which it begins")
     option("--every", type=mux.positive, default=Options.every, metavar="N",
            help="stores and drops between two snapshots (%(default)s)")
     option("--servers", type=mux.positive, default=SERVERS, metavar="N",
-           help="servers of this node, so that so many reads run side by side, and that one takes "
-           "a snapshot while others go on (%(default)s)")
+           help="servers of this node: this number of reads run in parallel, and one server takes "
+           "a snapshot while the others go on (%(default)s)")
     option("--seconds", type=mux.duration, default=Options.seconds, metavar="S",
-           help="how long a request may hold a server, before that is ended and the request is "
-           "refused as xqs:SECONDS; and how long a store or drop waits while nothing comes from "
-           "the log, before its client's stream is ended, which says that it is unknown "
+           help="how long a request may occupy a server, before the server is ended and the "
+           "request refused as xqs:SECONDS; and how long a store or drop waits while nothing comes "
+           "from the log, before its client's stream is ended, since its outcome is unknown "
            "(%(default)g)")
     option("--memory", type=bounds.memory_of, metavar="SIZE", default=bounds.half_of_memory(),
            help="how much memory all servers of this node may have together, as 8G (half of this "
            f"machine's, {bounds.shown_size(bounds.half_of_memory())}; 0: any)")
     mux.add_kept(option)
     option("--fresh", action="store_true",
-           help="each read sees all that the log held when it was asked")
+           help="each read sees all that the log held when the read came")
     option("--program", metavar="TEXT",
-           help=f"what names the server's program, which nodes tell each other every {EVERY} "
-           "places; else the checksum of its bytes")
+           help="the name of the server's program, which nodes tell each other every "
+           f"{EVERY} places; by default the checksum of its bytes")
     option("--http", metavar="[HOST:]PORT",
-           help="where HTTP has /health, /metrics and /status of this node, which anybody may read "
-           "who can connect")
+           help="the port for HTTP with /health, /metrics and /status of this node, which anybody "
+           "can read who can connect")
     option("--plain", action="store_true",
-           help="take brokers of other machines without TLS too, on a network that is yours alone")
+           help="allow brokers on other machines without TLS, on a network that is yours alone")
     operating.add_options(parser)
     mux.add_client_limits(parser, DEFAULTS)
     return parser
@@ -228,7 +228,7 @@ def snapshot_main(words: Sequence[str]) -> int:
     """Runs `xqs snapshot` with these words. Returns the exit status."""
     parser = argparse.ArgumentParser(
         prog="xqs snapshot",
-        description="Has the node that runs with this folder take a snapshot now. With --end all "
+        description="Makes the node that runs with this folder take a snapshot now. With --end all "
         "nodes of its log take one, at the same place, and end: then the program can be changed.")
     parser.add_argument("snapshots", type=pathlib.Path, metavar="DIR")
     parser.add_argument("--end", action="store_true", help="all nodes take one, and end")

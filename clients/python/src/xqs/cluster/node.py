@@ -299,7 +299,7 @@ class Node:
             await asyncio.sleep(0.1)
             if not any(it.may_return and it.state.place + 1 == place for it in held):
                 return f"all nodes skip place {place:,}"
-        raise XqError("the log has not brought it back in 10 seconds: it may be skipped later")
+        raise XqError("the log has not confirmed it in 10 seconds: the place may be skipped later")
 
     async def take_snapshot(self) -> str:
         """Takes a snapshot of all that is carried out so far, or later. Returns a message.
@@ -345,7 +345,7 @@ class Node:
             async with asyncio.timeout_at(until):
                 await self._end_in_order()
         except TimeoutError:
-            self.say("the servers are ended at once, since one is held")
+            self.say("the servers are ended at once, since one is busy")
             await self.abandon()
 
     async def _drain(self) -> None:

@@ -14,14 +14,14 @@ def add_options(parser: argparse.ArgumentParser) -> None:
     """Adds the options; with any of them no node begins."""
     group = parser.add_argument_group("questions, which start no node").add_argument
     group("--status", action="store_true",
-          help="how the node does that runs with the folder of --snapshots; the exit status is 0 "
-          "where it follows the log, and else 1")
+          help="the status of the node that runs with the folder of --snapshots; the exit status "
+          "is 0 if it follows the log, else 1")
     group("--json", action="store_true", help="with --status: one line of JSON")
     group("--copies", action="store_true",
-          help="which brokers of --log have a copy of it; the exit status is 0 where all have")
+          help="which brokers of --log have a copy of it; the exit status is 0 if all have")
     group("--skip", type=int, metavar="PLACE",
-          help="has all nodes skip the store or drop of that place, at which the node of "
-          "--snapshots stepped aside: it is carried out nowhere, for good")
+          help="makes all nodes skip the store or drop of that place, at which the node of "
+          "--snapshots stepped aside: no node will ever carry it out")
 
 
 def asks(given: argparse.Namespace) -> bool:
@@ -34,7 +34,7 @@ def answer(given: argparse.Namespace, address: LogAddress | None) -> int:
     if address is not None:
         return ending.run(_copies(address), "node")
     if given.snapshots is None:
-        raise ValueError("which node is meant says its folder: give --snapshots DIR")
+        raise ValueError("the folder says which node is meant: give --snapshots DIR")
     if given.skip is not None:
         return _skip(given.snapshots, given.skip)
     return _status(given.snapshots, given.json)

@@ -38,7 +38,7 @@ def name_of_process(process: int) -> str:
         if script := _script(process):
             digest.update(script.read_bytes())
     except OSError as error:
-        raise NoProgram(f"the server's program can't be read ({error}): name it by --program"
+        raise NoProgram(f"the server's program can't be read ({error}): give its name by --program"
                         ) from error
     return f"checksum {digest.hexdigest()[:SHOWN]}"
 

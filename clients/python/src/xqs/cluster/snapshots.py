@@ -99,13 +99,13 @@ def read_state(file: BinaryIO) -> State:
     """The state at the head of a snapshot; the file then stands at its backup. Raises
     NoSnapshot."""
     if file.readline() != FORM:
-        raise NoSnapshot("the file is no snapshot of this form")
+        raise NoSnapshot("the file is not a snapshot")
     head = _HEAD.fullmatch(file.readline())
     if head is None:
         raise NoSnapshot("the snapshot has no state")
     text = file.read(int(head[1]))
     if hashlib.sha256(text).hexdigest() != head[2].decode() or file.read(1) != b"\n":
-        raise NoSnapshot("the snapshot's state is cut or was changed")
+        raise NoSnapshot("the snapshot's state is cut short or was changed")
     try:
         return State.of_json(text.decode())
     except NoState as error:

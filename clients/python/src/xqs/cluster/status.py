@@ -84,11 +84,11 @@ class Status:
     def metrics(self) -> str:
         """The figures in the format that Prometheus reads."""
         figures: list[tuple[str, str, float]] = [
-            ("follows", "1 where clients are well served here", float(self.is_following)),
+            ("follows", "1 if the node serves clients well", float(self.is_following)),
             ("place", "stores and drops carried out since the log's beginning", self.place),
             ("offset", "offset of the last message that was taken", self.offset),
             ("end_offset", "last offset of the log that is known here", self.end),
-            ("lag_seconds", "for how long an entry of this node has not come back", self.lag),
+            ("lag_seconds", "how long an entry of this node has not come back", self.lag),
             ("copies", "brokers that have a copy of the log", self.copies),
             ("brokers", "brokers that this node was given", self.brokers),
             ("snapshot_place", "place of the last snapshot", self.snapshot_place),

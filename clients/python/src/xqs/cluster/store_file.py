@@ -46,8 +46,8 @@ class StoreFile:
         state = self._ended_state()
         if state is None:
             if self.path.exists() and not self.note.exists():
-                raise NotOurs(f"{self.path} is there, and never followed a log: give another "
-                              "--file, and load what it has into the node")
+                raise NotOurs(f"{self.path} exists, but never followed a log: give another "
+                              "--file, and load its documents into the node")
             self._set_aside()
         self._write_note(RUNNING)
         return state
