@@ -19,7 +19,7 @@ from xqs.in_use import file_of, holders, why_not_opened
 
 
 def ran(*words: str) -> tuple[int, str, str]:
-    """The status of a command, its output, and what it says."""
+    """The status, output and messages of a command."""
     out, said = io.StringIO(), io.StringIO()
     with redirect_stdout(out), redirect_stderr(said):
         try:

@@ -1,4 +1,4 @@
-"""Constructors from files: as they are written, of any length, and as they were exported."""
+"""Constructors from files: written by hand, of any length, and exported."""
 
 import io
 import unittest
@@ -109,7 +109,7 @@ class Reading(unittest.TestCase):
 
 
 def large(count: int, between: str = ", ") -> str:
-    """The text of a document with so many children."""
+    """The text of a document with this number of children."""
     items = between.join(f'element b {{attribute n {{"{it}"}}, text {{"{"t" * 300}"}}}}'
                          for it in range(count))
     return "document {element a {" + items + "}}"

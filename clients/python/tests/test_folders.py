@@ -218,7 +218,7 @@ class Commands(CommandTest):
         self.assertEqual(len(self.run_command("list")[1].split()), 61)
 
     def _grown_journal(self, lines: int) -> Path:
-        """The journal, once it has so many lines."""
+        """The journal, once it has this number of lines."""
         end = time.monotonic() + 60
         while time.monotonic() < end:
             found = list((self.folder / "state").rglob("*.jsonl"))
@@ -228,7 +228,7 @@ class Commands(CommandTest):
         raise TimeoutError("the load does not go on")
 
     def _once_free(self, *words: str | Path) -> tuple[int, str, str]:
-        """The command's outcome, once the server that was left has let go of the file."""
+        """The command's outcome, once the remaining server has released the file."""
         end = time.monotonic() + 30
         while True:
             outcome = self.run_command(*words)
@@ -366,6 +366,6 @@ class Fetching(ServerTest):
 
 
 def file_at_start(file: io.BufferedRandom) -> io.BufferedRandom:
-    """The file, to be read from its start."""
+    """The file, at its beginning."""
     file.seek(0)
     return file

@@ -1,4 +1,4 @@
-"""How a multiplexer tells what it does, is given another program, and is started by systemd."""
+"""How a multiplexer reports its figures, is upgraded, and is started by systemd."""
 
 import os
 import re
@@ -37,7 +37,7 @@ class MuxTest(FolderTest):
     """A multiplexer for each test."""
 
     def mux(self, *options: str, servers: int = 2) -> RunningMux:
-        """A multiplexer that ends with the test, all of whose servers hold the documents."""
+        """A multiplexer that ends with the test, whose servers all hold the documents."""
         mux = self.enterContext(RunningMux(*options, servers=servers))
         for number in range(2, servers + 1):
             mux.wait_for(f"server {number} holds the documents")
@@ -49,7 +49,7 @@ class MuxTest(FolderTest):
 
 
 class FiguresTest(MuxTest):
-    """What `xqs status`, `/metrics` and the log say."""
+    """The output of `xqs status`, `/metrics` and the log."""
 
     def test_status_tells_servers_and_replies(self) -> None:
         for servers in (1, 2):
@@ -150,10 +150,10 @@ class FiguresTest(MuxTest):
 
 
 class UpgradeTest(MuxTest):
-    """Another program in the place of the one that runs."""
+    """Upgrades to another program."""
 
     def program(self, name: str, plan: str = "") -> Path:
-        """A program that answers as the server does, but for what is planted."""
+        """A program that answers as the server does, except for planted answers."""
         script = self.folder / name
         words = " ".join(server_command())
         planted = f"{sys.executable} {OTHER} {plan} -- " if plan else ""
@@ -162,7 +162,7 @@ class UpgradeTest(MuxTest):
         return script
 
     def upgrade(self, mux: RunningMux, program: Path) -> subprocess.CompletedProcess[str]:
-        """Asks for it."""
+        """Requests the upgrade."""
         return run_xqs("mux", "--upgrade", mux.place, "--", str(program), "--file",
                        str(mux.folder / "x.db"))
 
@@ -215,7 +215,7 @@ class UpgradeTest(MuxTest):
 
 
 class PartsTest(FolderTest):
-    """What the multiplexer stands on."""
+    """The parts of the multiplexer."""
 
     def test_times_are_counted_in_buckets(self) -> None:
         times = Times()
@@ -257,7 +257,7 @@ class PartsTest(FolderTest):
 
 
 class SystemdTest(FolderTest):
-    """The units of the release, and a socket that is given with the start."""
+    """The units of the release, and a socket that systemd passes at the start."""
 
     @unittest.skipUnless(shutil.which("systemd-analyze"), "systemd-analyze is not installed")
     def test_the_units_are_ones(self) -> None:

@@ -1,4 +1,4 @@
-"""Where a text is refused: what is claimed holds, and nothing more is claimed."""
+"""The places of faults: each reported one is right, and nothing else is reported."""
 
 import os
 import random
@@ -90,7 +90,7 @@ class Places(ServerTest):
             error = future.exception()
             code = error.code if isinstance(error, Refused) else ""
             if code in ("XQST0090", "prof:DOUBLE", "prof:DIGITS", "FOAR0002", "prof:DEPTH"):
-                continue  # (told before the grammar is)
+                continue  # (reported before the grammar is read)
             place = places.find(asked, "XPST0003")
             with self.subTest(text):
                 self.assertEqual(place is not None, code == "XPST0003", code)
@@ -132,7 +132,7 @@ class Places(ServerTest):
 
 
 def mutated(chosen: random.Random, text: str) -> str:
-    """The text with a token taken away, doubled, put elsewhere or replaced."""
+    """The text with a token removed, doubled, moved or replaced."""
     pieces = [it.text for it in tokens(text)]
     other = ["for", "return", "(", ")", "$", "x", "/", "//", ",", "1", "if", "eq", "{", "}", "*",
              "text", "element", "@", "..", "::", ":=", "in", "'s'", "div", "[", "]", "child", "!"]

@@ -25,7 +25,7 @@ BOMB = b"""<!DOCTYPE a [<!ENTITY a "ha"><!ENTITY b "&a;&a;&a;&a;&a;&a;&a;&a;&a;&
 
 def constructor(text: str | bytes, choices: XmlChoices = XmlChoices(), size: int = 1 << 16,
                 charset: str | None = None) -> str:
-    """The constructor that XML becomes, read in pieces of so many bytes."""
+    """The constructor from XML, read in pieces of this number of bytes."""
     data = text.encode() if isinstance(text, str) else text
     reader = XmlReader("x.xml", Temporary(), choices, charset)
     for at in range(0, len(data), size):
@@ -263,7 +263,7 @@ class Chunks(unittest.TestCase):
 
 class Stores(ServerTest):
     def stored_as(self, text: str, choices: XmlChoices = XmlChoices()) -> int:
-        """Stores XML, compares canonical forms, and gives the number of parts."""
+        """Stores XML, and compares canonical forms. Returns the number of parts."""
         stored = store_xml(self.server, "x", [text.encode()], "x.xml", choices)
         self.assertEqual(self.server.list(), ["x"])
         [document] = self.server.query('doc("x")')
