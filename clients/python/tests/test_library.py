@@ -217,7 +217,7 @@ class Reconnecting(FolderTest):
     def test_documents_that_are_gone_are_told(self) -> None:
         with self.serving([b"stored", None], [b"()", b"1"]) as place, connect(place) as client:
             client.store("kept", "document {}")
-            with self.assertRaisesRegex(Lost, "there no more: kept"):
+            with self.assertRaisesRegex(Lost, "that were stored here: kept"):
                 client.query("a")
             self.assertEqual(client.query_text("b"), "1")
 

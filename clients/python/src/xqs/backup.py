@@ -193,7 +193,7 @@ def check_against(
 
 
 def main(words: Sequence[str]) -> int:
-    """Carries out `xqs backup`."""
+    """Runs `xqs backup`."""
     parser = argparse.ArgumentParser(
         prog="xqs backup",
         parents=[connection_options()],
@@ -237,7 +237,7 @@ def _pass_state(file: BinaryIO) -> None:
 
 
 def restore_main(words: Sequence[str]) -> int:
-    """Carries out `xqs restore`."""
+    """Runs `xqs restore`."""
     parser = argparse.ArgumentParser(
         prog="xqs restore",
         parents=[connection_options()],

@@ -116,7 +116,7 @@ class Exporter:
 
 
 def main(words: Sequence[str]) -> int:
-    """Carries out the command."""
+    """Runs the command."""
     given = _parser().parse_args(words)
     _check_folder(given.folder)
     with connected(given) as client:

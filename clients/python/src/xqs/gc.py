@@ -23,7 +23,7 @@ def collect(client: Client, older_than: float, is_dry: bool = False) -> list[str
 
 
 def main(words: Sequence[str]) -> int:
-    """Carries out the command."""
+    """Runs the command."""
     parser = argparse.ArgumentParser(
         prog="xqs gc",
         parents=[connection_options()],

@@ -257,7 +257,7 @@ def _head(given: argparse.Namespace, where: str) -> dict[str, str]:
 
 
 def main(words: Sequence[str]) -> int:
-    """Carries out the command."""
+    """Runs the command."""
     given = parser().parse_args(words)
     given.match = given.match or [XML_FILES]
     given.prefix = whole_prefix(given.prefix)

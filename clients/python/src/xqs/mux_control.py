@@ -25,14 +25,18 @@ class Multiplexing(Protocol):
     """A multiplexer with any number of servers."""
 
     @property
-    def metrics(self) -> Metrics: ...
+    def metrics(self) -> Metrics:
+        """The counts of the replies."""
 
-    def report(self) -> Report: ...
+    def report(self) -> Report:
+        """The figures of the servers and their clients."""
 
-    def changes_of(self, address: bytes) -> str: ...
+    def changes_of(self, address: bytes) -> str:
+        """A token that stays the same as long as nobody changes the document at the address."""
 
     async def upgrade(self, command: Sequence[str],
-                      say: Callable[[str], Awaitable[None]]) -> None: ...
+                      say: Callable[[str], Awaitable[None]]) -> None:
+        """Makes the servers run another command. Raises XqError if they can't."""
 
 
 def figures_of(multiplexer: Multiplexing) -> str:
@@ -99,7 +103,7 @@ def ask_upgrade(place: str, command: Sequence[str]) -> int:
 
 
 def status_main(words: Sequence[str]) -> int:
-    """Carries out `xqs status`."""
+    """Runs `xqs status`."""
     parser = argparse.ArgumentParser(
         prog="xqs status",
         description="Shows the status of the multiplexer that listens at a place: its servers, "

@@ -94,6 +94,7 @@ class ManyServers:
             self._give_up()
 
     def has_file(self, replica: Replica) -> bool:
+        """Whether it is the server with the file."""
         return self.replicas.on_file and replica is self.replicas.first
 
     async def _begin(self, replica: Replica) -> None:

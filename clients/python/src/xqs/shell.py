@@ -37,7 +37,7 @@ def word_before(text: str) -> str:
 
 
 def main(words: Sequence[str]) -> int:
-    """Carries out the command."""
+    """Runs the command."""
     given = _parser().parse_args(words)
     place = server_of(given)
     with connected(given, place) as client:
