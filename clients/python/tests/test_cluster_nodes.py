@@ -464,7 +464,7 @@ class Stops(NodesTest):
             nodes = [await self.begun("a"), await self.begun("b", program="commit 2")]
             await self.counted(nodes, 25)
             await self.until(lambda: nodes[0].has_said("node b runs the program commit 2, and this "
-                                                       "one commit 1: their sums are alike"))
+                                                       "one commit 1: their sums are equal"))
             self.assertEqual(await self.documents(nodes[0]), await self.documents(nodes[1]))
             self.assertFalse(any(it.node.failed.is_set() for it in nodes))
 

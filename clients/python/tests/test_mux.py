@@ -294,7 +294,7 @@ class RestartTest(MuxTest):
 
     def test_in_memory_it_says_what_is_lost(self) -> None:
         mux = self.mux(on_file=False)
-        self.assertIn("the documents live in memory", mux.said())
+        self.assertIn("the documents are in memory", mux.said())
         first, second = self.client(mux), self.client(mux)
         for address in (b"a", b"b", b"c"):
             self.assertEqual(first.ask(b"S", store_body(address)), (DONE, b"stored"))
