@@ -2,8 +2,8 @@
 
     cd clients/python && python3 -m unittest
 
-`XQS_SERVER` names the command of the server, else it is the repository's ./serve. `XQS_LONG=1` runs
-the tests that take long, too. Those that want packages from outside the standard library lie in
+`XQS_SERVER` names the command of the server, by default the repository's ./serve. `XQS_LONG=1` also
+runs the tests that take long. Tests that need packages from outside the standard library are in
 with_packages: `python3 -m unittest discover -s with_packages`.
 """
 

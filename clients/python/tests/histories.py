@@ -1,8 +1,8 @@
-"""What clients of several nodes saw, and whether one log can have given it.
+"""What clients of several nodes saw, and whether one log can explain it.
 
-Each writer has a document of its own, whose value it counts up, and all count up a shared one. What
-a writer was told and what it read is noted here, in the order of its own steps, with times of one
-clock; at the end the maps of all nodes are judged by it.
+Each writer increments a document of its own, and all writers increment a shared one. What a writer
+was told and what it read is noted here, in the order of its own steps, with times of one clock. At
+the end the documents of all nodes are checked against these notes.
 """
 
 import re
@@ -16,8 +16,8 @@ _NUMBER = re.compile(rb'"(\d+)"')
 
 @dataclass(frozen=True)
 class Write:
-    """A store of a value under an address: when it was sent and answered, and whether it was
-    answered; `told` is what the reply said."""
+    """A store of a value at an address: when it was sent and answered, and whether it was answered;
+    `told` is what the reply said."""
 
     address: bytes
     value: int
@@ -29,7 +29,7 @@ class Write:
 
 @dataclass(frozen=True)
 class Read:
-    """A value that was read: of which node, and whether it was asked to be fresh."""
+    """A value that was read: from which node, and whether the read had to be fresh."""
 
     address: bytes
     value: int
@@ -53,7 +53,7 @@ class History:
         self.writes.append((writer, write))
 
     def count(self, is_acknowledged: bool) -> None:
-        """Notes that the shared document was counted up, or may have been."""
+        """Notes that the shared document was incremented, or may have been."""
         if is_acknowledged:
             self.counted += 1
         else:
@@ -67,7 +67,7 @@ def number_of(text: bytes) -> int:
 
 
 def faults(history: History, maps: Sequence[Mapping[bytes, bytes]], shared: bytes) -> list[str]:
-    """What one log can't have given; empty where there is nothing.
+    """What no log can explain; empty if there is nothing.
 
     `maps` are the documents of all nodes at the end, once each has taken all of the log.
     """
@@ -89,7 +89,8 @@ def _unequal(maps: Sequence[Mapping[bytes, bytes]]) -> list[str]:
 
 
 def _lost(history: History, last: Mapping[bytes, bytes]) -> list[str]:
-    """Documents that are not what their only writer was told last, or tried later."""
+    """Documents whose value is neither the last that their only writer was told nor one it tried
+    later."""
     by_address: dict[bytes, list[Write]] = {}
     for _, write in history.writes:
         by_address.setdefault(write.address, []).append(write)
@@ -106,14 +107,14 @@ def _lost(history: History, last: Mapping[bytes, bytes]) -> list[str]:
 
 
 def _repeated(address: bytes, writes: Sequence[Write]) -> list[str]:
-    """A document is stored once; all other stores replace it, whoever sees the replies."""
+    """Checks that each document is stored once and then replaced, whoever sees the replies."""
     told = Counter(it.told for it in writes if it.is_acknowledged)
     return [f"{address!r} was stored {told[b'stored']} times"] if told[b"stored"] > 1 else []
 
 
 def _stale(history: History) -> list[str]:
-    """Reads that miss a write: the reader's own that was answered before, and where the read was
-    fresh, anybody's."""
+    """Reads that miss a write: one of the reader itself that was answered before, or, for a fresh
+    read, of anybody."""
     # (a document has one writer, whose values and times rise)
     answered: dict[bytes, list[tuple[float, int, str]]] = {}
     for writer, write in history.writes:
@@ -124,7 +125,7 @@ def _stale(history: History) -> list[str]:
 
 
 def _missed(read: Read, answered: Sequence[tuple[float, int, str]]) -> str:
-    """What the read misses of the writes of its document, in their order; else nothing."""
+    """What the read misses of the writes of its document, which are in order; empty if nothing."""
     count = bisect_right(answered, read.sent, key=lambda it: it[0])
     if not count:
         return ""

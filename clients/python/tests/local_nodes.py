@@ -1,4 +1,4 @@
-"""Nodes of this process over a log in memory, and what tests ask of them."""
+"""Nodes in this process over a log in memory, and helpers for tests of them."""
 
 import asyncio
 import shutil
@@ -29,7 +29,7 @@ def planted(*plan: str) -> list[str]:
 
 
 class LocalNode:
-    """A node, with a socket at which clients can connect, and what it has said."""
+    """A node, with a socket for clients, and its messages."""
 
     def __init__(self, options: Options, link: MemoryLink, folder: Path) -> None:
         self.said: list[str] = []
@@ -66,7 +66,7 @@ class LocalNode:
             self._server.close()
 
     def has_said(self, words: str) -> bool:
-        """Whether it has said these words."""
+        """Whether its messages have these words."""
         return any(words in line for line in self.said)
 
 
@@ -77,7 +77,7 @@ class NodesTest(unittest.IsolatedAsyncioTestCase):
         asyncio.get_running_loop().set_debug(False)
         self.folder = Path(tempfile.mkdtemp(prefix="xqs-nodes-"))
         self.log = MemoryLog()
-        # (a name that is taken is told soon in one process)
+        # (in one process a node soon hears that its name is taken)
         claim = mock.patch("xqs.cluster.node.CLAIM", 0.02)
         claim.start()
         self.addCleanup(claim.stop)
@@ -94,7 +94,7 @@ class NodesTest(unittest.IsolatedAsyncioTestCase):
         shutil.rmtree(self.folder)
 
     def made(self, name: str, **options: Any) -> LocalNode:
-        """A node that has not begun; its snapshots stand in a folder of its name."""
+        """A node that has not begun; its folder of snapshots has its name."""
         folder = self.folder / f"snapshots-{name}"
         folder.mkdir(exist_ok=True)
         given: dict[str, Any] = {
@@ -128,6 +128,6 @@ class NodesTest(unittest.IsolatedAsyncioTestCase):
                 await asyncio.sleep(0.01)
 
     async def gone(self, client: AsyncClient, address: str) -> None:
-        """That a store is not answered, and that its client's stream ends."""
+        """Checks that a store is not answered, and that its client's stream ends."""
         with self.assertRaises(Unknown):
             await asyncio.wait_for(client.store(address, "document {}"), 20)

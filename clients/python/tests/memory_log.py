@@ -1,4 +1,4 @@
-"""A log in memory, in the place of an engine: with faults that tests plant."""
+"""A log in memory in place of an engine, with faults that tests plant."""
 
 import asyncio
 import os
@@ -19,7 +19,7 @@ class MemoryLog:
         self.copies: dict[str, bool | None] = {"memory": True}
 
     def append(self, message: bytes) -> int:
-        """Adds a message; its offset."""
+        """Adds a message. Returns its offset."""
         self.kept.append(message)
         for link in self.links:
             link.grown.set()
@@ -39,9 +39,9 @@ class MemoryLog:
 class MemoryLink:
     """A node's connection to a log in memory.
 
-    `plan` may say of each message that is published what becomes of it: `keep`, `lose`, or
-    `keep unconfirmed`; after the last two the connection ends, and comes back. `refuse` is not
-    kept, and the connection stays. While `is_stuck` nothing comes, and nothing says so.
+    `plan` may say what happens to each message that is published: `keep`, `lose`, or `keep
+    unconfirmed`; after the last two the connection ends, and comes back. With `refuse` the message
+    is not kept, and the connection stays. While `is_stuck` nothing comes, and nothing reports that.
     """
 
     def __init__(self, log: MemoryLog) -> None:
@@ -70,7 +70,7 @@ class MemoryLink:
             raise Away(plan)
 
     async def messages(self, after: int) -> AsyncGenerator[tuple[int, bytes], None]:
-        """The messages behind an offset, until the connection ends."""
+        """The messages after an offset, until the connection ends."""
         at, ends = max(after + 1, self.log.first), self._ends
         if not self.is_up:
             raise Away("it is down")
@@ -105,7 +105,7 @@ class MemoryLink:
         return self.log.append(probe(os.urandom(8)))
 
     async def copies(self) -> dict[str, bool | None]:
-        """Of each broker whether it has a copy."""
+        """For each broker whether it has a copy."""
         return dict(self.log.copies)
 
     def drop(self, why: str) -> None:

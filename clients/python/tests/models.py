@@ -1,8 +1,8 @@
 """What clients of a multiplexer may see, kept beside it: no reply is wrong, stale or backward.
 
-Each writer has a document of its own, whose value only grows, and all of them share a counter that
-each store makes one more. Readers ask for all values at once: none may be less than any that was
-read or answered before the question was asked.
+Each writer has a document of its own, whose value only grows, and all share a counter that each
+store increments. Readers ask for all values at once: none may be less than any that was read or
+answered before the question was sent.
 """
 
 import random
@@ -23,7 +23,7 @@ Place = Callable[[], Connection]
 
 
 class Model:
-    """The least values that may be read, of each document: what was answered or read so far."""
+    """The least value that may be read of each document: what was answered or read so far."""
 
     def __init__(self, writers: int) -> None:
         self.addresses = [COUNTER, *(b"writer/%d" % number for number in range(writers))]
@@ -49,7 +49,7 @@ class Model:
             self._least[number] = max(self._least[number], value)
 
     def least(self) -> list[int]:
-        """What a read that is asked now may not fall below."""
+        """The least values for a read that is sent now."""
         with self._lock:
             return list(self._least)
 
@@ -66,19 +66,19 @@ class Model:
                 self._least[number] = max(self._least[number], value)
 
     def fault(self, text: str) -> None:
-        """Something is wrong."""
+        """Notes that something is wrong."""
         with self._lock:
             self.faults.append(text)
 
     def check_count(self, value: int) -> None:
-        """At the end: each store of the counter was carried out once, or was unknown."""
+        """Checks at the end that each store of the counter was carried out once, or is unknown."""
         if not self.counted <= value <= self.counted + self.unknown:
             self.fault(f"the counter is {value}: {self.counted} stores were answered, and "
                        f"{self.unknown} are unknown")
 
 
 class Worker:
-    """A client in a thread: it connects again where its stream ends."""
+    """A client in a thread: it connects again when its stream ends."""
 
     def __init__(self, model: Model, connect: Place, until: float, seed: int) -> None:
         self._model, self._connect, self._until = model, connect, until
@@ -91,7 +91,7 @@ class Worker:
         try:
             while time.monotonic() < self._until and not self._model.faults:
                 self._work()
-        except Exception as error:  # A thread's error is to be seen at the end.
+        except Exception as error:  # The error of a thread is shown at the end.
             self._model.fault(repr(error))
         finally:
             if self._connection:
@@ -101,7 +101,7 @@ class Worker:
         raise NotImplementedError
 
     def _ask(self, kind: bytes, body: bytes) -> tuple[int, bytes] | None:
-        """A reply; None where the stream ended."""
+        """A reply; None if the stream has ended."""
         try:
             if self._connection is None:
                 self._connection = self._connect()
@@ -155,11 +155,11 @@ class Writer(Worker):
 
 
 class Rude(Worker):
-    """Connects again and again, and keeps to nothing: no other client may see anything of it."""
+    """Connects again and again, and breaks all rules: no other client may notice."""
 
     LARGE = b'string-join(for $x in 1 to 2000 return "%s")' % (b"x" * 50)
     SHORT = 0.3
-    """How long it waits for a socket that takes nothing."""
+    """How many seconds it waits for a socket that takes nothing."""
 
     def _work(self) -> None:
         act = self._chance.choice([self._half, self._huge, self._noise, self._unread, self._drip,
@@ -170,7 +170,7 @@ class Rude(Worker):
         self._model.rude += 1
 
     def _half(self, connection: Connection) -> None:
-        """Sends a part of a frame, behind whole ones or not."""
+        """Sends part of a frame, perhaps after whole ones."""
         frame = struct.pack(">IIc", 5 + 40, 1, b"S") + store_body(b"rude", b"document {}")
         if self._chance.random() < 0.5:
             connection.send(b"Q", b"1")
@@ -178,23 +178,23 @@ class Rude(Worker):
         time.sleep(self._chance.uniform(0, 0.05))
 
     def _huge(self, connection: Connection) -> None:
-        """Says that a frame will have gigabytes, or that it has nothing."""
+        """Announces a frame of gigabytes, or of no bytes."""
         length = self._chance.choice([0xFFFFFFFF, 0x7FFFFFFF, 1 << 24, 0, 1, 4])
         connection.socket.sendall(struct.pack(">I", length) + b"x" * 3000)
         connection.socket.recv(1000)
 
     def _noise(self, connection: Connection) -> None:
-        """Sends bytes of chance."""
+        """Sends random bytes."""
         connection.socket.sendall(self._chance.randbytes(self._chance.randrange(1, 5000)))
         connection.socket.recv(1000)
 
     def _unread(self, connection: Connection) -> None:
-        """Asks for much, and reads nothing of it."""
+        """Asks for much, and reads none of it."""
         for _ in range(40):
             connection.send(b"Q", self.LARGE)
 
     def _drip(self, connection: Connection) -> None:
-        """Sends a frame byte by byte, and reads its reply so."""
+        """Sends a frame byte by byte, and reads its reply in the same way."""
         for byte in struct.pack(">IIc", 5 + 1, 1, b"Q") + b"1":
             connection.socket.sendall(bytes([byte]))
             time.sleep(0.001)
@@ -202,7 +202,7 @@ class Rude(Worker):
             connection.read(1)
 
     def _leave(self, connection: Connection) -> None:
-        """Goes before its replies come, once by both sides and once by its own alone."""
+        """Leaves before its replies come, once by closing both sides and once only its own."""
         for number in range(self._chance.randrange(1, 30)):
             connection.send(b"S", store_body(b"rude/%d" % (number % 3)))
             connection.send(b"Q", b'count(collection())')
@@ -211,8 +211,8 @@ class Rude(Worker):
 
 
 class Abandoner(Worker):
-    """Goes, now and then, while a server is at its query, which takes for ever. The last server
-    that holds documents in memory would stay at it, so this is for those in a file."""
+    """Leaves, now and then, while a server works on its query, which never ends. The last server
+    with documents in memory would go on with it, so this is for documents in a file."""
 
     def _work(self) -> None:
         with suppress(OSError), self._connect() as connection:

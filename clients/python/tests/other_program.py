@@ -1,5 +1,6 @@
-"""Stands for another program, which answers one query otherwise: `other_program.py TEXT -- COMMAND
-[WORDS]`. A query that has the text is answered with `planted`; all else goes to the command."""
+"""Stands in for another program, which answers one query differently: `other_program.py TEXT --
+COMMAND [WORDS]`. A query that has the text is answered with `planted`; all else goes to the
+command."""
 
 import subprocess
 import sys
@@ -11,7 +12,7 @@ from tests.planted_server import read_message, write_message  # noqa: E402
 
 
 def main() -> int:
-    """Passes frames on, up to their end; the server's status."""
+    """Passes frames on until they end. Returns the server's status."""
     text, command = sys.argv[1].encode(), sys.argv[3:]
     server = subprocess.Popen(command, stdin=-1, stdout=-1)
     assert server.stdin is not None and server.stdout is not None

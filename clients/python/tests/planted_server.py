@@ -1,8 +1,8 @@
 """Stands before a server, with faults: `planted_server.py WORD=ADDRESS .. -- COMMAND [WORDS]`.
 
-A store to the address of `want` is not passed on, and wants memory; one to that of `change` is
-carried out and answered as if it had been another; at one to that of `end` the server ends, and
-at one to that of `hold` it stays for ever. One to that of `slow` takes a while.
+A store to the address of `want` is not passed on, and gets `memory`. One to that of `change` is
+carried out and answered as if it had been another one. At one to that of `end` the server ends, and
+at one to that of `hold` it hangs. One to that of `slow` takes a while.
 """
 
 import struct
@@ -25,12 +25,12 @@ def write_message(stream: IO[bytes], message: bytes) -> None:
 
 
 def address_of(message: bytes) -> bytes:
-    """The address of a store; nothing of another request."""
+    """The address of a store; empty for another request."""
     return message[6 : 6 + message[5]] if message[4:5] == b"S" else b""
 
 
 def main() -> int:
-    """Passes frames on, up to their end; the server's status."""
+    """Passes frames on until they end. Returns the server's status."""
     at = sys.argv.index("--")
     plan = dict(word.split("=") for word in sys.argv[1:at])
     server = subprocess.Popen(sys.argv[at + 1 :], stdin=-1, stdout=-1)

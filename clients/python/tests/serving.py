@@ -1,4 +1,4 @@
-"""What the tests of the multiplexer stand on: one that runs, and connections to it."""
+"""Helpers for tests of the multiplexer: a running one, and connections to it."""
 
 import ctypes
 import os
@@ -26,7 +26,7 @@ def store_body(address: bytes, query: bytes = b"document {}") -> bytes:
 
 
 class Connection:
-    """A connection by which frames go out and replies come in, one by one."""
+    """A connection that sends frames and receives replies one by one."""
 
     def __init__(self, place: str) -> None:
         if place.startswith("unix:"):
@@ -39,13 +39,13 @@ class Connection:
         self.tag = 0
 
     def send(self, kind: bytes, body: bytes = b"") -> int:
-        """Sends a frame; gives its tag."""
+        """Sends a frame. Returns its tag."""
         self.tag += 1
         self.socket.sendall(struct.pack(">IIc", 5 + len(body), self.tag, kind) + body)
         return self.tag
 
     def read(self, count: int) -> bytes:
-        """So many bytes, or fewer where the stream ends."""
+        """This number of bytes, or fewer if the stream ends."""
         data = bytearray()
         while len(data) < count:
             try:
@@ -66,7 +66,7 @@ class Connection:
         return struct.unpack(">I", message[:4])[0], message[4], message[5:]
 
     def ask(self, kind: bytes, body: bytes = b"") -> tuple[int, bytes] | None:
-        """Sends a frame, and gives status and text of its reply; None where the stream ends."""
+        """Sends a frame. Returns the status and text of its reply, or None if the stream ends."""
         tag = self.send(kind, body)
         reply = self.reply()
         if reply is None:
@@ -82,19 +82,19 @@ class Connection:
 
 
 def die_with_parent() -> None:
-    """Has the process of which this is called be killed when the test's ends, however it does."""
+    """Makes the calling process be killed when the test's process ends, in any way."""
     ctypes.CDLL(None).prctl(PR_SET_PDEATHSIG, signal.SIGKILL)
 
 
 def children_of(process: int) -> list[int]:
-    """The process ids of those that a process started."""
+    """The process ids of a process's children."""
     found = subprocess.run(["pgrep", "-P", str(process)],
                            capture_output=True, text=True, check=False)
     return [int(word) for word in found.stdout.split()]
 
 
 class Running:
-    """A command of the package that runs, and what it says."""
+    """A running command of the package, and its messages."""
 
     process: subprocess.Popen[bytes]
     errors: Path
@@ -102,7 +102,7 @@ class Running:
     def run(
         self, words: list[str], errors: Path, environment: dict[str, str] | None = None
     ) -> None:
-        """Starts the command; what it says goes to a file."""
+        """Starts the command; its messages go to a file."""
         self.errors = errors
         with errors.open("ab") as said:
             self.process = subprocess.Popen(
@@ -111,11 +111,11 @@ class Running:
                 preexec_fn=die_with_parent)
 
     def said(self) -> str:
-        """What the command and its servers have said so far."""
+        """The messages of the command and its servers so far."""
         return self.errors.read_text()
 
     def wait_for(self, words: str, seconds: float = PATIENCE) -> str:
-        """Waits until the words are said; gives the rest of their line."""
+        """Waits until the words appear. Returns the rest of their line."""
         end = time.monotonic() + seconds
         while words not in self.said():
             if time.monotonic() > end or self.process.poll() is not None:
@@ -128,12 +128,12 @@ class Running:
         return [it for keeper in children_of(self.process.pid) for it in children_of(keeper)]
 
     def terminate(self) -> int:
-        """Ends it by SIGTERM; gives its exit status."""
+        """Ends it by SIGTERM. Returns its exit status."""
         self.process.send_signal(signal.SIGTERM)
         return self.process.wait(PATIENCE)
 
     def end(self) -> None:
-        """Ends it, in order if that is soon."""
+        """Ends it, in order if that doesn't take long."""
         if self.process.poll() is None:
             self.process.send_signal(signal.SIGTERM)
             try:
@@ -144,10 +144,10 @@ class Running:
 
 
 class RunningMux(Running):
-    """A multiplexer that runs, over the server of XQS_SERVER or another command.
+    """A running multiplexer, over the server of XQS_SERVER or another command.
 
-    `options` are words before the `--`; with `on_file` the documents live in a file of `folder`.
-    There is one server, unless `servers` says otherwise: 0 is as many as `xqs mux` has by itself.
+    `options` are words before the `--`; with `on_file` the documents are in a file of `folder`.
+    There is one server, unless `servers` says otherwise: 0 is the default of `xqs mux`.
     """
 
     def __init__(self, *options: str, on_file: bool = True, place: str = "",

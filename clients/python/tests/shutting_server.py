@@ -1,5 +1,5 @@
-"""Stands in for a server whose disk is full, or whose database shuts: every store wants the store,
-and after one to `shut` so does each request."""
+"""Stands in for a server whose disk is full, or whose database shuts: every store gets `store`, and
+after one to `shut` so does each request."""
 
 import struct
 import sys

@@ -1,4 +1,4 @@
-"""What the tests share: the server's command, a server for each class of tests, files of it."""
+"""What the tests share: the server's command, a server for each class of tests, its files."""
 
 import io
 import os
@@ -25,7 +25,7 @@ LIBRARY = (
 
 
 long_test = unittest.skipUnless(os.environ.get("XQS_LONG"), "it takes long; set XQS_LONG=1")
-"""For tests that take minutes, or gigabytes."""
+"""For tests that take minutes or gigabytes."""
 
 
 def server_command() -> list[str]:
@@ -39,7 +39,7 @@ def file_server(path: str | Path) -> list[str]:
 
 
 def store_part(client: Client, address: str = "", text: str = "document {}") -> None:
-    """Stores a document as a load that was killed leaves one."""
+    """Stores a document as an interrupted load leaves one."""
     client.request_later(store_of(address or Temporary().next(), text)).result()
 
 
@@ -77,7 +77,7 @@ class CommandTest(FolderTest):
         self.addCleanup(state.stop)
 
     def run_command(self, *words: str | Path) -> tuple[int, str, str]:
-        """The status of a command, its output, and what it says."""
+        """The status, output and messages of a command."""
         out, said = io.StringIO(), io.StringIO()
         with redirect_stdout(out), redirect_stderr(said):
             status = main([str(words[0]), *self.words, *map(str, words[1:])])

@@ -1,5 +1,5 @@
-"""Bounds of time and memory: a request over its time is ended, the caller is free at once, and what
-is lost is said."""
+"""Bounds of time and memory: a request that takes too long is ended, its caller is free at once,
+and a message names what is lost."""
 
 import argparse
 import asyncio
@@ -20,13 +20,13 @@ from xqs.cli import main
 ENDLESS = "every $x in 1 to 1000000, $y in 1 to 1000000 satisfies $x > 0"
 GREEDY = "count(for $x in 1 to 1000000, $y in 1 to 20 return element a {$x})"
 SLACK = 10.0
-"""So many seconds more than it should take something may take on a busy machine."""
+"""How many seconds more than it should something may take on a busy machine."""
 
 
 class BoundTest(FolderTest):
     @contextlib.contextmanager
     def within(self, seconds: float) -> Iterator[None]:
-        """Fails where the body takes much longer."""
+        """Fails if the body takes much longer."""
         begin = time.monotonic()
         yield
         self.assertLess(time.monotonic() - begin, seconds + SLACK)

@@ -132,7 +132,7 @@ class Ends(FolderTest):
 
 
 def serve_one(listening: socket.socket) -> None:
-    """Hands one connection to a server, and waits for its end."""
+    """Passes one connection to a server, and waits for its end."""
     connection, _ = listening.accept()
     with connection:
         subprocess.run(server_command(), stdin=connection.fileno(),

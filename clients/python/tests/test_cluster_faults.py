@@ -1,4 +1,4 @@
-"""What holds or harms one server or node must not end the log for all."""
+"""A fault of one server or node must not stop the log for all."""
 
 import asyncio
 import random
@@ -57,7 +57,7 @@ class Plain(NodesTest):
 
 
 class Poison(NodesTest):
-    """A store that holds a server, or wants more than it has."""
+    """A store that occupies a server, or needs more memory than it has."""
 
     async def test_a_store_that_never_ends_is_refused_and_not_logged(self) -> None:
         first = await self.begun("a", seconds=1.0, servers=2)
@@ -109,7 +109,7 @@ class Poison(NodesTest):
         await other.store("x", value(2))
         await self.until(lambda: node.has_said("a steps aside, and no longer follows the log, at "
                                                "place 1"), 60)
-        self.assertTrue(node.has_said("the entry of place 2 held its server for over 2.5 seconds"))
+        self.assertTrue(node.has_said("the entry of place 2 occupied its server for over 2.5"))
         await other.store("later", value(3))
         self.assertEqual(await client.query('string(doc("c")), count(collection())'), ["1", 1])
         with self.assertRaises(Wanting):
@@ -123,7 +123,7 @@ class Poison(NodesTest):
         await other.store("x", value(2))
         await self.until(lambda: node.has_said("a steps aside"))
         await other.store("later", value(3))
-        # (that server wants memory for each store to this address, of a snapshot too)
+        # (for each store to this address the server runs out of memory, from a snapshot too)
         await other.drop("x")
         await sound.node.take_snapshot()
         newest = max((self.folder / "snapshots-b").glob("*.snapshot"))
@@ -133,7 +133,7 @@ class Poison(NodesTest):
         self.assertEqual(await self.documents(node), await self.documents(sound))
 
     async def test_a_place_that_is_skipped_is_skipped_by_all(self) -> None:
-        """Those that had carried it out go back."""
+        """The nodes that had carried it out go back."""
         sound, node = await self.begun("b"), await self.begun("a", command=planted("want=x"))
         client, other = await self.client(node), await self.client(sound)
         await client.store("c", value(1))
@@ -181,10 +181,10 @@ class Names(NodesTest):
 
 
 class Backward(NodesTest):
-    """No read sees an earlier state than one before it."""
+    """No read sees an earlier state than a read before it."""
 
     async def test_reads_of_several_servers_go_forward_only(self) -> None:
-        """With one server slow, snapshots and kills."""
+        """A context with one slow server, snapshots and kills."""
         with mock.patch("xqs.cluster.upkeep.MEMORY_FRAMES", 400):
             node = await self.begun("a", servers=2, every=30)
             over = asyncio.Event()
@@ -198,8 +198,8 @@ class Backward(NodesTest):
         self.assertGreater(len(seen), 20)
 
     async def read_on(self, node: LocalNode, seconds: float) -> list[int]:
-        """What reads see in turn, each asked once the one before it was answered, by two clients
-        that take turns."""
+        """What successive reads see, each sent once the one before it was answered, by two clients
+        in alternation."""
         clients = [await self.client(node), await self.client(node)]
         seen: list[int] = []
         until = time.monotonic() + seconds
@@ -223,7 +223,7 @@ class Backward(NodesTest):
 
     @staticmethod
     async def count_up(node: LocalNode, over: asyncio.Event) -> None:
-        """Counts a document up until all is over."""
+        """Increments a document until the test ends."""
         while not over.is_set():
             client = await node.connect()
             with suppress(XqError, OSError):

@@ -1,4 +1,4 @@
-"""A node follows again, whatever becomes of what it waits for, and says so."""
+"""A node follows the log again after any fault of what it waits for, and reports it."""
 
 import asyncio
 import hashlib
@@ -23,7 +23,7 @@ def value(number: int) -> str:
 
 
 class Limits(unittest.IsolatedAsyncioTestCase):
-    """No wait lasts for ever."""
+    """No wait lasts forever."""
 
     async def test_work_that_does_not_end_when_it_is_cancelled_is_left(self) -> None:
         ended = asyncio.Event()
@@ -105,7 +105,7 @@ sys.exit(ending.run(work(), "node"))
 
 
 class Ends(unittest.TestCase):
-    """A process ends whatever the package leaves behind."""
+    """A process ends whatever tasks its package leaves."""
 
     def test_tasks_that_do_not_end_hold_nobody_up(self) -> None:
         for kind in ("deaf", "none"):
@@ -118,7 +118,7 @@ class Ends(unittest.TestCase):
 
 
 class Silence(NodesTest):
-    """A log that brings nothing, and does not say so."""
+    """A log that brings nothing, and reports nothing."""
 
     async def test_a_dead_feed_is_begun_anew_each_time_and_says_so(self) -> None:
         with mock.patch("xqs.cluster.feed.SILENT", 0.3), \
@@ -128,7 +128,7 @@ class Silence(NodesTest):
             client = await self.client(node)
             await client.store("c", value(1))
             for turn in range(3):
-                # (each time for long enough that the watch has to act more than once)
+                # (each time long enough for the watch to act more than once)
                 begun = len(node.link.drops)
                 node.link.is_stuck = True
                 stored = asyncio.create_task(client.store("c", value(turn)))
@@ -176,7 +176,7 @@ class Silence(NodesTest):
 
 
 class Gaps(NodesTest):
-    """A log that no longer has what comes next."""
+    """A log that no longer has the next message."""
 
     async def test_a_gap_that_cannot_be_judged_now_is_judged_again(self) -> None:
         node = await self.begun("a")
@@ -221,10 +221,10 @@ class Aside(NodesTest):
 
 
 class Identity(NodesTest):
-    """A log has an identity, and one made anew is refused."""
+    """A log has an identity, and one created anew is refused."""
 
     async def counted(self, name: str, count: int) -> None:
-        """A node that begins, counts up so far, takes a snapshot and ends."""
+        """A node that begins, counts up to a number, takes a snapshot and ends."""
         node = await self.begun(name)
         client = await self.client(node)
         for _ in range(count):
@@ -273,7 +273,7 @@ class Identity(NodesTest):
 
     @staticmethod
     def leave_out_identity(path: Path) -> None:
-        """Makes a snapshot one of a version without identities."""
+        """Turns a snapshot into one of a version without identities."""
         with open(path, "rb") as file:
             fields = json.loads(snapshots.read_state(file).to_json())
             rest = file.read()

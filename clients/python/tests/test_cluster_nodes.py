@@ -1,4 +1,4 @@
-"""Nodes over a log in memory, with the faults of an engine planted: what clients see of them."""
+"""Nodes over a log in memory with planted faults of an engine: what clients see of them."""
 
 import asyncio
 import os
@@ -28,7 +28,7 @@ def value(number: int) -> str:
 
 
 class Frames(NodesTest):
-    """A client sees what it sees of a server."""
+    """To a client a node looks like a server."""
 
     async def test_what_is_sent_ahead_takes_effect_in_its_order(self) -> None:
         client = await self.client(await self.begun("a"))
@@ -79,7 +79,7 @@ class Reading(NodesTest):
 
     @staticmethod
     def at(node: LocalNode, text: str) -> Follower:
-        """The server that is at a query with this text."""
+        """The server that works on a query with this text."""
         [found] = [it for it in node.node.followers
                    if any(text.encode() in asked.payload for asked in it.backend.in_flight)]
         return found
@@ -180,7 +180,7 @@ class Losses(NodesTest):
             node.link.drop("planted")
 
     async def count_up(self, node: LocalNode, counts: Counter[str]) -> None:
-        """Counts the shared document up until all is over, by one client after the other."""
+        """Increments the shared document until the test ends, by one client after another."""
         while not counts["over"] and not node.is_over:
             client = await node.connect()
             with suppress(XqError, OSError):
@@ -346,7 +346,7 @@ class Beginnings(NodesTest):
         await self.until(lambda: any(folder.glob("*.snapshot")))
 
     async def test_a_snapshot_within_an_entry_is_found_by_the_checker(self) -> None:
-        """With the lock planted away, a snapshot has later documents than its offset says."""
+        """Without the lock a snapshot has later documents than its offset says."""
         node, history = await self.filled(count=1), History()
         history.counted = 1
         client = await self.client(node)
@@ -423,7 +423,7 @@ class Stops(NodesTest):
             self.assertEqual(await self.documents(nodes[0]), await self.documents(nodes[1]))
 
     async def counted(self, nodes: list[LocalNode], count: int) -> None:
-        """Stores so many documents by the first node."""
+        """Stores this number of documents through the first node."""
         client = await self.client(nodes[0])
         for number in range(count):
             await client.store(f"c{number}", value(number))
@@ -464,7 +464,7 @@ class Stops(NodesTest):
             nodes = [await self.begun("a"), await self.begun("b", program="commit 2")]
             await self.counted(nodes, 25)
             await self.until(lambda: nodes[0].has_said("node b runs the program commit 2, and this "
-                                                       "one commit 1: their sums are alike"))
+                                                       "one commit 1: their sums are equal"))
             self.assertEqual(await self.documents(nodes[0]), await self.documents(nodes[1]))
             self.assertFalse(any(it.node.failed.is_set() for it in nodes))
 

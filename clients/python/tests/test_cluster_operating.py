@@ -1,4 +1,4 @@
-"""What operators and load balancers ask of a node, and what it says by itself."""
+"""What operators and load balancers ask a node, and what it reports by itself."""
 
 import asyncio
 import contextlib
@@ -24,7 +24,7 @@ def value(number: int) -> str:
 
 
 class Statuses(NodesTest):
-    """How a node does."""
+    """The status of a node."""
 
     async def test_one_that_follows_says_so_with_its_figures(self) -> None:
         node = await self.begun("a", servers=2)
@@ -64,7 +64,7 @@ class Statuses(NodesTest):
         self.assertEqual(status_of(self.made("b").node).state, "catches up")
 
     async def asked(self, node: LocalNode, head: bytes) -> tuple[bytes, bytes]:
-        """The head and the body of what HTTP answers."""
+        """The head and body of an HTTP answer."""
         place = f"{self.folder}/http"
         server = await asyncio.start_unix_server(
             partial(health.serve, partial(status_of, node.node)), place)
@@ -115,7 +115,7 @@ class Questions(NodesTest):
     """`xqs node --status` and its like."""
 
     async def answered(self, *words: str) -> tuple[int, str]:
-        """The exit status and the output of a question."""
+        """The exit status and output of a question."""
         out = io.StringIO()
 
         def ask() -> int:
@@ -219,7 +219,7 @@ class Copies(NodesTest):
 
 
 class Snapshots(NodesTest):
-    """Snapshots that hold nobody up."""
+    """Snapshots that delay nobody."""
 
     async def test_writes_are_answered_while_one_is_taken(self) -> None:
         node = await self.begun("a", servers=2)

@@ -1,4 +1,4 @@
-"""What a node computes and what it keeps in files, without an engine of logs."""
+"""What a node computes and keeps in files, without an engine of logs."""
 
 import asyncio
 import contextlib
@@ -71,11 +71,11 @@ class Batches(unittest.TestCase):
 
 
 class SeenNumbers(unittest.TestCase):
-    """Each entry is taken once, those of one sender in their order."""
+    """Each entry is taken once, and those of one sender in order."""
 
     @staticmethod
     def taken(seen: Seen, batch: Batch) -> list[int]:
-        """Takes what is new of a message."""
+        """Takes the new entries of a message."""
         numbers = []
         for number, _ in seen.new_entries(batch):
             seen.take(batch.sender, number)
@@ -114,7 +114,7 @@ class SeenNumbers(unittest.TestCase):
 
 
 class Sums(unittest.TestCase):
-    """Nodes compare what came out."""
+    """Nodes compare their results."""
 
     def test_a_sum_tells_entries_and_replies_and_their_order(self) -> None:
         begin = sums.START
@@ -139,7 +139,7 @@ class Sums(unittest.TestCase):
 
 
 class Agreeing(unittest.TestCase):
-    """Which of several nodes stops where one differs."""
+    """Which of several nodes stops if one differs."""
 
     def setUp(self) -> None:
         self.own = Agreement("a", "p")
@@ -147,7 +147,7 @@ class Agreeing(unittest.TestCase):
 
     def hear(self, node: str, total: str, program: str = "p", place: int = EVERY,
              skips: tuple[int, ...] = ()) -> str:
-        """What is said of another node's report."""
+        """The message about another node's report."""
         return self.own.hear(Report(node, place, total * 64, program, skips))
 
     def test_nodes_that_agree_say_nothing(self) -> None:
@@ -201,7 +201,7 @@ class Agreeing(unittest.TestCase):
         self.own.reached(2 * EVERY, "3" * 64)
 
     def test_another_program_with_the_same_sums_is_a_warning_that_is_said_once(self) -> None:
-        self.assertIn("node b runs the program q, and this one p: their sums are alike so far",
+        self.assertIn("node b runs the program q, and this one p: their sums are equal so far",
                       self.hear("b", "1", "q"))
         self.assertEqual(self.hear("b", "1", "q"), "")
         self.hear("c", "1", "q")
@@ -349,7 +349,7 @@ class Snapshots(ServerTest):
                 self.check_changed(whole)
 
     def check_changed(self, whole: bytes) -> None:
-        """Judges the snapshot; one that passes has to have the documents and state of before."""
+        """Checks the snapshot; one that passes must have the documents and state of before."""
         found = snapshots.judge(self.path)
         self.assertEqual(found.state.to_json(), self.state.to_json())
         if self.path.read_bytes() != whole:
@@ -383,7 +383,7 @@ class Snapshots(ServerTest):
 
 
 class Files(FolderTest):
-    """A file of documents, and beside it where it stands."""
+    """A file of documents, and the note of its place beside it."""
 
     def setUp(self) -> None:
         super().setUp()
@@ -433,7 +433,7 @@ class Files(FolderTest):
 
 
 class Histories(unittest.TestCase):
-    """The checker of the tests finds what one log can't have given."""
+    """The checker of the tests finds what no log can explain."""
 
     def setUp(self) -> None:
         self.history = History()

@@ -19,7 +19,7 @@ from xqs.in_use import file_of, holders, why_not_opened
 
 
 def ran(*words: str) -> tuple[int, str, str]:
-    """The status of a command, its output, and what it says."""
+    """The status, output and messages of a command."""
     out, said = io.StringIO(), io.StringIO()
     with redirect_stdout(out), redirect_stderr(said):
         try:
@@ -49,7 +49,7 @@ class Words(FolderTest):
     def test_what_is_no_server(self) -> None:
         with mock.patch.dict(os.environ, {"XQS_SERVER": shlex.join(server_command())}):
             self.assertEqual(ran("query", "--", "-(1)")[:2], (0, "-1\n"))
-        self.assertIn("behind -- stands the command", ran("query", "1", "--")[2])
+        self.assertIn("command must follow --", ran("query", "1", "--")[2])
         self.assertIn("two servers", ran("query", "1", "--server", "x", "--", "y")[2])
         self.assertEqual(with_server(COMMANDS["list"], ["--", "a", "b c"]),
                          ["--server", "a 'b c'"])
@@ -75,7 +75,7 @@ class Words(FolderTest):
         file.write_text("<a/>")
         server = shlex.join(server_command())
         said = ran("store", "a", str(file), "--server", server)[2]
-        self.assertIn("in memory and are gone when this command ends", said)
+        self.assertIn("in memory and will be lost when this command ends", said)
         with mock.patch.dict(os.environ, {"XQS_SERVER": f"env A=b {server}"}):
             self.assertIn("in memory", ran("store", "a", str(file))[2])
             self.assertIn("in memory", ran("load", str(self.folder), "--journal",

@@ -1,4 +1,4 @@
-"""Constructors from files: as they are written, of any length, and as they were exported."""
+"""Constructors from files: written by hand, of any length, and exported."""
 
 import io
 import unittest
@@ -29,21 +29,21 @@ WRITTEN = {
 }
 REFUSED = {
     'document {element a {element b {} element c {}}}': (1, 35, "a comma is missing"),
-    "document {element a {,}}": (1, 22, "a comma stands before the first item"),
-    'document {element a {"x",}}': (1, 26, "nothing stands after the comma"),
-    'document {element a {"x"': (1, 25, "ends inside of a constructor"),
+    "document {element a {,}}": (1, 22, "a comma comes before the first item"),
+    'document {element a {"x",}}': (1, 26, "nothing follows the comma"),
+    'document {element a {"x"': (1, 25, "ends inside a constructor"),
     "element a {}": (1, 1, "not exactly one document"),
     "": (1, 1, "not exactly one document"),
     "document {}, document {}": (1, 14, "not exactly one document"),
     "document {document {}}": (1, 11, "not exactly one document"),
     'document {attribute a {"1"}}': (1, 11, "a document has no attributes"),
-    'document {\n doc("x")}': (2, 2, "has constructors alone"),
+    'document {\n doc("x")}': (2, 2, "must have only constructors"),
     'document {\n element {"a"} {}}': (2, 2, "the name of the element is missing"),
     "document {element a {text {element b {}}}}": (1, 28, "holds strings, and here is element"),
     'document {element a {"&x;"}}': (1, 22, "an & that begins no reference"),
     'document {element a {"&#xD800;"}}': (1, 22, "an & that begins no reference"),
     "document {element p:a {}}": (1, 11, "the choice 'flat' takes it"),
-    'document {element a {"x", attribute b {"1"}}}': (1, 27, "an attribute stands after other"),
+    'document {element a {"x", attribute b {"1"}}}': (1, 27, "an attribute comes after other"),
     'document {element a {attribute b {"1"}, attribute c {}, attribute b {"2"}}}':
         (1, 57, "the element has two attributes called b"),
     'document {comment {"a--b"}}': (1, 11, "a comment holds -- or ends in -"),
@@ -53,8 +53,8 @@ REFUSED = {
     'document {element a {"\x01"}}': (1, 22, "a character that XML doesn't have"),
     'document {element a {"&#1;"}}': (1, 22, "a character that XML doesn't have"),
     "document {}}": (1, 12, "a brace closes"),
-    "document {element a {1}}": (1, 22, "has constructors alone"),
-    "document {} (: c": (1, 13, "has constructors alone"),
+    "document {element a {1}}": (1, 22, "must have only constructors"),
+    "document {} (: c": (1, 13, "must have only constructors"),
 }
 
 
@@ -109,7 +109,7 @@ class Reading(unittest.TestCase):
 
 
 def large(count: int, between: str = ", ") -> str:
-    """The text of a document with so many children."""
+    """The text of a document with this number of children."""
     items = between.join(f'element b {{attribute n {{"{it}"}}, text {{"{"t" * 300}"}}}}'
                          for it in range(count))
     return "document {element a {" + items + "}}"

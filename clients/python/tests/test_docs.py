@@ -1,4 +1,4 @@
-"""What docs/CLIENTS.md says of the library and of the commands holds."""
+"""Checks what docs/CLIENTS.md says about the library and the commands."""
 
 import ast
 import re
@@ -29,7 +29,7 @@ class Page(FolderTest):
             self.assertEqual(repr(found), expected)
 
     def judged(self, line: str) -> str:
-        """The line, with its value judged by what its comment says, if it has one."""
+        """The line; if it has a comment, its value is compared with that."""
         found = re.fullmatch(r"( *)(\S.*?) +# (.+)", line)
         if not found:
             return line

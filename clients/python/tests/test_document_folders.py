@@ -101,7 +101,7 @@ class ByCommand(CommandTest):
                 client.store(address, f'document {{element d {{"{address}"}}}}')
 
     def answered(self, answer: str, *words: str) -> tuple[int, str, str]:
-        """The outcome of a command on a terminal where that is typed."""
+        """The outcome of a command on a terminal where this text is typed."""
         typed = io.StringIO(answer)
         with mock.patch("sys.stdin", typed), mock.patch.object(typed, "isatty", lambda: True):
             return self.run_command(*words)

@@ -16,14 +16,14 @@ from xqs.xml_in import XmlChoices, XmlFault
 from xqs.xml_out import write_document
 
 FILES = Path(os.environ.get("XQS_XML_FILES", "/usr/share"))
-"""The folder whose XML files are tried."""
+"""The folder with the XML files to try."""
 SAMPLE = 60
-"""So many files are tried where not all are."""
+"""How many files are tried unless all are."""
 COMMENT_IN_DOCTYPE = re.compile(rb"<!DOCTYPE[^>\[]*\[[^\]]*(<!--|<\?)")
-"""Python's canonicalizer takes such comments and instructions for nodes, which they aren't;
+"""Python's canonicalizer takes these comments and instructions for nodes, which they aren't;
 with_packages/test_xml_files.py compares such files with libxml2."""
 SMALL = 60_000
-"""The files of the sample have so many bytes at most."""
+"""The most bytes of a file in the sample."""
 
 
 def files() -> list[Path]:
@@ -34,7 +34,7 @@ def files() -> list[Path]:
 
 class RoundTrips(ServerTest):
     def round_trip(self, file: Path) -> bool:
-        """Whether the file is taken; it then has to come back with its canonical form."""
+        """Whether the file is accepted; then it must come back with the same canonical form."""
         try:
             with open(file, "rb") as data:
                 store_xml(self.server, "x", chunks_of(data), file.name, FLAT)
@@ -65,7 +65,7 @@ class RoundTrips(ServerTest):
 
 
 def large(count: int, text: bytes) -> Iterator[bytes]:
-    """A document with so many long texts, in pieces."""
+    """A document with this number of long texts, in pieces."""
     yield b"<log>"
     for number in range(count):
         yield b"<entry n='%d'>%s</entry>" % (number, text)
@@ -98,7 +98,7 @@ class Large(ServerTest):
 
 
 def same_nodes(path: Path) -> list[tuple[str | None, int]]:
-    """What tells two large files apart: of each element its attribute, the hash of its text."""
+    """What tells two large files apart: the attribute of each element, and the hash of its text."""
     found: list[tuple[str | None, int]] = []
     for _, element in ElementTree.iterparse(path):
         found.append((element.get("n"), hash(element.text)))

@@ -83,7 +83,7 @@ class Commands(CommandTest):
         self.assertIn("1 stored, 4 refused, 0 failed", said)
         lines = out.splitlines()
         self.assertEqual(len(lines), 4)
-        self.assertTrue(lines[0].startswith("colon.xml:2:2: the name p:b wants namespaces"))
+        self.assertTrue(lines[0].startswith("colon.xml:2:2: the name p:b needs namespaces"))
         self.assertTrue(lines[1].startswith("cut.xml:1:4: no element found"))
         self.assertIn("entity.xml:1:25: the entity e is declared here", lines[2])
         self.assertIn("its address would have", lines[3])
@@ -218,7 +218,7 @@ class Commands(CommandTest):
         self.assertEqual(len(self.run_command("list")[1].split()), 61)
 
     def _grown_journal(self, lines: int) -> Path:
-        """The journal, once it has so many lines."""
+        """The journal, once it has this number of lines."""
         end = time.monotonic() + 60
         while time.monotonic() < end:
             found = list((self.folder / "state").rglob("*.jsonl"))
@@ -228,7 +228,7 @@ class Commands(CommandTest):
         raise TimeoutError("the load does not go on")
 
     def _once_free(self, *words: str | Path) -> tuple[int, str, str]:
-        """The command's outcome, once the server that was left has let go of the file."""
+        """The command's outcome, once the remaining server has released the file."""
         end = time.monotonic() + 30
         while True:
             outcome = self.run_command(*words)
@@ -257,7 +257,7 @@ class Commands(CommandTest):
             self.words = ["--server", command]
             status, _, said = self.run_command("load", self.folder / "in")
             self.assertEqual(status, 1)
-            self.assertIn("the same call goes on from here", said)
+            self.assertIn("the same command resumes from here", said)
         self.assertEqual(len(list((self.folder / "state").rglob("*.jsonl"))), 2)
 
     def test_what_is_no_file_is_listed(self) -> None:
@@ -366,6 +366,6 @@ class Fetching(ServerTest):
 
 
 def file_at_start(file: io.BufferedRandom) -> io.BufferedRandom:
-    """The file, to be read from its start."""
+    """The file, at its beginning."""
     file.seek(0)
     return file

@@ -1,4 +1,5 @@
-"""Nothing is left running: a server that was started ends with its client, whatever ends that."""
+"""Nothing is left running: a server that was started ends with its client, however the client
+ends."""
 
 import hashlib
 import importlib.util
@@ -21,7 +22,7 @@ ENDLESS = "every $x in 1 to 1000000, $y in 1 to 1000000 satisfies $x > 0"
 
 
 def take_signals() -> None:
-    """Has SIGINT and SIGHUP come through, also where the tests run in the background."""
+    """Lets SIGINT and SIGHUP through, even if the tests run in the background."""
     for number in (signal.SIGINT, signal.SIGHUP):
         signal.signal(number, signal.SIG_DFL)
 
@@ -44,7 +45,7 @@ def is_gone(mark: str) -> bool:
 
 
 def wait_until(is_so: Callable[[], object], what: str) -> None:
-    """Waits until the function says so."""
+    """Waits until the function returns true."""
     end = time.monotonic() + PATIENCE
     while not is_so():
         if time.monotonic() > end:
@@ -53,7 +54,7 @@ def wait_until(is_so: Callable[[], object], what: str) -> None:
 
 
 class Leftovers(FolderTest):
-    """Each command over a program in a server's place that never answers."""
+    """Each command, over a program that stands in for a server and never answers."""
 
     def setUp(self) -> None:
         super().setUp()
@@ -62,7 +63,7 @@ class Leftovers(FolderTest):
         (self.folder / "a.xml").write_text("<a/>")
 
     def commands(self) -> dict[str, list[str]]:
-        """The commands that start a server, with words with which they ask it something."""
+        """The commands that start a server, with words that send it a request."""
         file, folder = str(self.folder / "a.xml"), str(self.folder / "in")
         backup = self.folder / "backup"
         document = b"document {}"
@@ -80,7 +81,7 @@ class Leftovers(FolderTest):
         return commands
 
     def server(self, name: str, mark: str, is_last: bool = True) -> str:
-        """A script that stands for a server; it becomes the program, or waits for it."""
+        """A script in place of a server; it becomes the program, or waits for it."""
         script = self.folder / f"serve-{name}"
         line = f"exec sleep {mark}\n" if is_last else f"sleep {mark}\n:\n"
         script.write_text(f"#!/bin/sh\n{line}")
@@ -99,7 +100,8 @@ class Leftovers(FolderTest):
         return started
 
     def ends_all(self, *signals: signal.Signals, is_last: bool = True) -> None:
-        """Starts each command, sends it these signals once its server runs, and sees all end."""
+        """Starts each command, sends it these signals once its server runs, and checks that all
+        ends."""
         begun = {}
         for number, (name, words) in enumerate(self.commands().items()):
             mark = f"7{os.getpid()}{number}.5"

@@ -1,4 +1,4 @@
-"""The library as Python's users know one: iteration, trees, `repr`, errors, reconnecting."""
+"""The library in idiomatic Python: iteration, trees, `repr`, errors, reconnecting."""
 
 import asyncio
 import importlib.util
@@ -165,7 +165,7 @@ class Errors(unittest.TestCase):
 
 
 def answered(connection: socket.socket, answers: list[bytes | None]) -> None:
-    """Answers the requests of a connection; at None it ends."""
+    """Answers the requests of a connection; ends it at None."""
     splitter = protocol.Splitter(protocol.MAX_REQUEST)
     while answers and (piece := connection.recv(1 << 16)):
         for message in splitter.feed(piece):
@@ -179,7 +179,7 @@ def answered(connection: socket.socket, answers: list[bytes | None]) -> None:
 class Reconnecting(FolderTest):
     @contextmanager
     def serving(self, *connections: list[bytes | None]) -> Iterator[str]:
-        """A socket whose connections answer so, one after the other."""
+        """A socket whose connections give these answers, one connection after another."""
         path = str(self.folder / "s")
         with socket.socket(socket.AF_UNIX) as listening:
             listening.bind(path)
@@ -217,7 +217,7 @@ class Reconnecting(FolderTest):
     def test_documents_that_are_gone_are_told(self) -> None:
         with self.serving([b"stored", None], [b"()", b"1"]) as place, connect(place) as client:
             client.store("kept", "document {}")
-            with self.assertRaisesRegex(Lost, "there no more: kept"):
+            with self.assertRaisesRegex(Lost, "that were stored here: kept"):
                 client.query("a")
             self.assertEqual(client.query_text("b"), "1")
 

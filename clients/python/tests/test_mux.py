@@ -1,4 +1,4 @@
-"""The multiplexer before the server of XQS_SERVER: frames, limits, ends and restarts."""
+"""The multiplexer in front of the server of XQS_SERVER: frames, limits, ends and restarts."""
 
 import os
 import random
@@ -22,13 +22,13 @@ TEN_MILLION = b'let $x := "%s" return concat(%s)' % (b"x" * 1_000_000, b", ".joi
 
 
 def run_mux(*words: str) -> subprocess.CompletedProcess[str]:
-    """Runs a multiplexer that is to end by itself."""
+    """Runs a multiplexer that should end by itself."""
     return subprocess.run([sys.executable, "-m", "xqs", "mux", *words], cwd=SOURCES, text=True,
                           capture_output=True, timeout=PATIENCE, check=False)
 
 
 class MuxTest(FolderTest):
-    """A multiplexer of its own for each test, with so many servers."""
+    """A multiplexer for each test, with this number of servers."""
 
     servers = 1
 
@@ -43,7 +43,7 @@ class MuxTest(FolderTest):
 
 
 class FramesTest(MuxTest):
-    """What a client reads is what the server itself would have sent."""
+    """A client reads what the server itself would have sent."""
 
     def test_replies_carry_the_tags_of_their_clients(self) -> None:
         mux = self.mux()
@@ -99,7 +99,7 @@ class FramesTest(MuxTest):
 
 
 class HostileTest(MuxTest):
-    """Connections that are nobody's program."""
+    """Connections that are not from clients."""
 
     def test_bytes_of_chance_and_ends_of_chance(self) -> None:
         chance = random.Random(50)
@@ -129,7 +129,7 @@ class HostileTest(MuxTest):
 
 
 class ManyClientsTest(MuxTest):
-    """Clients at once, each with its share."""
+    """Many clients at once, each with its share."""
 
     def test_a_hundred_clients_beside_one_that_never_reads(self) -> None:
         mux = self.mux()
@@ -217,7 +217,7 @@ def resident(process: int) -> int:
 
 
 class RestartTest(MuxTest):
-    """Servers that end, and those that take their place."""
+    """Servers that end, and their successors."""
 
     def test_the_server_is_started_again_at_its_limit(self) -> None:
         mux = self.mux("--frames", "50")
@@ -294,7 +294,7 @@ class RestartTest(MuxTest):
 
     def test_in_memory_it_says_what_is_lost(self) -> None:
         mux = self.mux(on_file=False)
-        self.assertIn("the documents live in memory", mux.said())
+        self.assertIn("the documents are in memory", mux.said())
         first, second = self.client(mux), self.client(mux)
         for address in (b"a", b"b", b"c"):
             self.assertEqual(first.ask(b"S", store_body(address)), (DONE, b"stored"))
@@ -362,7 +362,7 @@ class ShutTest(MuxTest):
         self.assertEqual(mux.process.wait(PATIENCE), 1)
         self.assertIn("the server could not be started again", mux.said())
 
-    def test_a_reply_that_nobody_awaits_ends_its_server(self) -> None:
+    def test_a_reply_without_a_request_ends_its_server(self) -> None:
         reply = r"\0\0\0\7\0\0\0\1\0()"
         mux = self.enterContext(RunningMux(command=["sh", "-c", f"printf '{reply * 2}'; sleep 60"]))
         self.assertEqual(mux.process.wait(PATIENCE), 1)
@@ -399,7 +399,7 @@ class EndTest(MuxTest):
 
 
 class ReadOnlyTest(MuxTest):
-    """Requests that change are refused by their kind, whatever they hold."""
+    """Changes are refused by the kind of the frame, whatever they hold."""
 
     def test_stores_and_drops_are_refused(self) -> None:
         connection = self.client(self.mux("--read-only"))
@@ -413,7 +413,7 @@ class ReadOnlyTest(MuxTest):
 
 
 class PlacesTest(MuxTest):
-    """Where a multiplexer listens, and where it does not."""
+    """Where a multiplexer can listen, and where it can't."""
 
     def test_the_socket_is_its_owners(self) -> None:
         mux = self.mux()
@@ -439,7 +439,7 @@ class PlacesTest(MuxTest):
         file.write_text("kept")
         ended = run_mux(f"unix:{file}", "--", *server_command())
         self.assertEqual(ended.returncode, 1)
-        self.assertIn("a file stands there that is no socket", ended.stderr)
+        self.assertIn("there is a file that is no socket", ended.stderr)
         self.assertEqual(file.read_text(), "kept")
 
     def test_tcp_listens_on_loopback_alone(self) -> None:

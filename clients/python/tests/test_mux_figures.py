@@ -1,4 +1,4 @@
-"""How a multiplexer tells what it does, is given another program, and is started by systemd."""
+"""How a multiplexer reports its figures, is upgraded, and is started by systemd."""
 
 import os
 import re
@@ -37,7 +37,7 @@ class MuxTest(FolderTest):
     """A multiplexer for each test."""
 
     def mux(self, *options: str, servers: int = 2) -> RunningMux:
-        """A multiplexer that ends with the test, all of whose servers hold the documents."""
+        """A multiplexer that ends with the test, whose servers all hold the documents."""
         mux = self.enterContext(RunningMux(*options, servers=servers))
         for number in range(2, servers + 1):
             mux.wait_for(f"server {number} holds the documents")
@@ -49,7 +49,7 @@ class MuxTest(FolderTest):
 
 
 class FiguresTest(MuxTest):
-    """What `xqs status`, `/metrics` and the log say."""
+    """The output of `xqs status`, `/metrics` and the log."""
 
     def test_status_tells_servers_and_replies(self) -> None:
         for servers in (1, 2):
@@ -116,7 +116,7 @@ class FiguresTest(MuxTest):
     def test_who_asks_where_nobody_listens_is_told(self) -> None:
         done = run_xqs("status", f"unix:{self.folder}/none")
         self.assertEqual(done.returncode, 1)
-        self.assertIn("no multiplexer of this user's runs at", done.stderr)
+        self.assertIn("no multiplexer of this user runs at", done.stderr)
 
     def test_the_control_is_its_owners_and_goes_with_the_multiplexer(self) -> None:
         mux = self.mux(servers=1)
@@ -136,7 +136,7 @@ class FiguresTest(MuxTest):
     def test_where_it_can_not_be_asked_it_serves(self) -> None:
         (self.folder / "s.control").mkdir()
         mux = self.enterContext(RunningMux(place=f"unix:{self.folder}/s"))
-        mux.wait_for("it can't be asked how it does")
+        mux.wait_for("it can't be asked for its status")
         self.assertEqual(self.client(mux).ask(b"Q", b"1"), (DONE, b"1"))
 
     def test_a_port_has_its_control_too(self) -> None:
@@ -150,10 +150,10 @@ class FiguresTest(MuxTest):
 
 
 class UpgradeTest(MuxTest):
-    """Another program in the place of the one that runs."""
+    """Upgrades to another program."""
 
     def program(self, name: str, plan: str = "") -> Path:
-        """A program that answers as the server does, but for what is planted."""
+        """A program that answers as the server does, except for planted answers."""
         script = self.folder / name
         words = " ".join(server_command())
         planted = f"{sys.executable} {OTHER} {plan} -- " if plan else ""
@@ -162,7 +162,7 @@ class UpgradeTest(MuxTest):
         return script
 
     def upgrade(self, mux: RunningMux, program: Path) -> subprocess.CompletedProcess[str]:
-        """Asks for it."""
+        """Requests the upgrade."""
         return run_xqs("mux", "--upgrade", mux.place, "--", str(program), "--file",
                        str(mux.folder / "x.db"))
 
@@ -187,7 +187,7 @@ class UpgradeTest(MuxTest):
         self.assertEqual(client.ask(b"Q", b"doc('a')//red"), (DONE, b"element red {}"))
         done = self.upgrade(mux, self.program("other", "//red"))
         self.assertEqual(done.returncode, 1)
-        self.assertIn("it answers otherwise", done.stderr)
+        self.assertIn("its answer differs", done.stderr)
         for _ in range(6):
             self.assertEqual(client.ask(b"Q", b'doc("a")'),
                              (DONE, b"document {element red {}}"))
@@ -199,7 +199,7 @@ class UpgradeTest(MuxTest):
         self.assertEqual(client.ask(b"S", store_body(b"a")), (DONE, b"stored"))
         done = self.upgrade(mux, Path("/bin/false"))
         self.assertEqual(done.returncode, 1)
-        self.assertIn("the program is not taken over, and the one before goes on: server 2: the "
+        self.assertIn("the upgrade is refused, and the old program goes on: server 2: the "
                       "server ended as it started", done.stderr)
         other = run_xqs("mux", "--upgrade", mux.place, "--", *server_command(), "--file", "other")
         self.assertEqual(other.returncode, 1)
@@ -215,7 +215,7 @@ class UpgradeTest(MuxTest):
 
 
 class PartsTest(FolderTest):
-    """What the multiplexer stands on."""
+    """The parts of the multiplexer."""
 
     def test_times_are_counted_in_buckets(self) -> None:
         times = Times()
@@ -257,7 +257,7 @@ class PartsTest(FolderTest):
 
 
 class SystemdTest(FolderTest):
-    """The units of the release, and a socket that is given with the start."""
+    """The units of the release, and a socket that systemd passes at the start."""
 
     @unittest.skipUnless(shutil.which("systemd-analyze"), "systemd-analyze is not installed")
     def test_the_units_are_ones(self) -> None:

@@ -18,7 +18,7 @@ DONE, WANTING = 0, 2
 class Writer:
     """A client with a document of its own: it knows which values the document may have.
 
-    A store that has its reply leaves one value; one whose stream closed leaves two.
+    After a store with a reply that is one value; after one whose stream closed there are two.
     """
 
     def __init__(self, mux: RunningMux, number: int, until: float) -> None:
@@ -74,7 +74,7 @@ class Writer:
 
 
 def kill_all(processes: list[int]) -> int:
-    """Ends processes with SIGKILL; how many were there."""
+    """Ends processes with SIGKILL. Returns their number."""
     count = 0
     for process in processes:
         with suppress(ProcessLookupError):
@@ -84,7 +84,7 @@ def kill_all(processes: list[int]) -> int:
 
 
 class KillsTest(unittest.TestCase):
-    """No reply says what is not so, and nothing that was stored is lost."""
+    """No reply is false, and nothing that was stored is lost."""
 
     def test_what_was_stored_is_there_whenever_the_server_is_killed(self) -> None:
         chance = random.Random(int(os.environ.get("XQS_SEED", "50")))

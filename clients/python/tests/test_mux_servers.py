@@ -62,29 +62,28 @@ def in_memory(mux: RunningMux) -> list[int]:
 
 
 class FramesTest(test_mux.FramesTest):
-    """What holds of one server's frames."""
+    """The checks of one server's frames."""
 
     servers = SERVERS
 
 
 class HostileTest(test_mux.HostileTest):
-    """What holds of one server's rude clients."""
+    """The checks of one server's rude clients."""
 
     servers = SERVERS
 
 
 class EndTest(test_mux.EndTest):
-    """What holds of one server's end."""
+    """The checks of one server's end."""
 
     servers = SERVERS
 
 
 class TrialTest(ServersTest):
-    """Writers and readers beside servers that are killed and stopped by chance, and beside clients
-    without manners."""
+    """Writers and readers while servers are killed and stopped at random, beside rude clients."""
 
     def trial(self, on_file: bool, seconds: float) -> None:
-        """Runs the trial; fails with what a client saw that can't be."""
+        """Runs the trial; fails with anything impossible that a client saw."""
         chance = random.Random(int(os.environ.get("XQS_SEED", "7")))
         mux = self.mux("--compare", "50", "--frames", "30000", on_file=on_file)
         until, model = time.monotonic() + seconds, Model(3)
@@ -109,7 +108,7 @@ class TrialTest(ServersTest):
         self.assertGreater(min(model.stores, model.reads, model.counted), 20)
 
     def check(self, mux: RunningMux, model: Model) -> None:
-        """At the end each server gives what was stored, and the counter is right."""
+        """Checks at the end that each server has what was stored, and that the counter is right."""
         for number in range(10 * SERVERS):
             connection = self.client(mux)
             floor = model.least()
@@ -123,12 +122,12 @@ class TrialTest(ServersTest):
 
     @staticmethod
     def last_lines(mux: RunningMux) -> str:
-        """What the multiplexer said after a server was filled last."""
+        """The multiplexer's messages since a server was last filled."""
         return mux.said().rpartition("holds the documents")[2]
 
     @staticmethod
     def harm(mux: RunningMux, chance: random.Random) -> int:
-        """Kills or stops a server; how many."""
+        """Kills or stops a server. Returns how many."""
         found = mux.server_ids()
         if not found:
             return 0
@@ -152,7 +151,7 @@ class TrialTest(ServersTest):
 
 
 def go_on(process: int) -> None:
-    """Has a stopped process go on."""
+    """Lets a stopped process go on."""
     with suppress(ProcessLookupError):
         os.kill(process, signal.SIGCONT)
 
@@ -264,7 +263,7 @@ class ReplacedTest(ServersTest):
         self.assertNotIn("and are lost", mux.said())
 
     def wait_for_fills(self, mux: RunningMux, count: int) -> None:
-        """Waits until servers were filled so often."""
+        """Waits until servers were filled this number of times."""
         end = time.monotonic() + PATIENCE
         while mux.said().count("holds the documents") < count:
             self.assertLess(time.monotonic(), end, mux.said())
@@ -374,7 +373,7 @@ class LineTest(ServersTest):
 
 
 class FullTest(ServersTest):
-    """A disk that is full, which a bound on the length of files stands in for."""
+    """A full disk; a limit on the length of files stands in for one."""
 
     def test_stores_are_refused_and_reads_go_on(self) -> None:
         script = self.folder / "serve"
@@ -405,10 +404,10 @@ class FullTest(ServersTest):
 
 
 class DifferTest(ServersTest):
-    """Servers that don't answer alike."""
+    """Servers whose answers differ."""
 
     def planted(self, plan: str, program: Path = PLANTED) -> list[str]:
-        """The command of a server with faults, where it holds documents in memory."""
+        """The command of a server with faults, if it holds documents in memory."""
         script = self.folder / "planted"
         words = " ".join(server_command())
         script.write_text(
@@ -451,7 +450,7 @@ class DifferTest(ServersTest):
 
 
 class LargeTest(ServersTest):
-    """Documents that don't fit a frame come to the other servers too."""
+    """Documents that don't fit a frame reach the other servers too."""
 
     def test_large_documents_are_held_by_all(self) -> None:
         mux = self.mux("--compare", "1", servers=2, on_file=False)
@@ -472,7 +471,7 @@ class LargeTest(ServersTest):
         self.assert_alike(mux)
 
     def assert_alike(self, mux: RunningMux) -> None:
-        """Both servers give the same document, in pieces of it."""
+        """Checks that both servers give the same document, in pieces of it."""
         queries = [b'count(doc("big")//node()), count(doc("big")//@*), name(doc("big")/*)',
                    b'string(doc("big")/big/@n)', b'doc("big")/big/comment()',
                    b'doc("big")/big/processing-instruction()', b'doc("big")/big/x', b"L",

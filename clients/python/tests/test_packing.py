@@ -1,4 +1,4 @@
-"""Parts of long documents hold their nodes as texts, and the join makes them again."""
+"""Parts of long documents hold their nodes as texts, and the join makes the nodes again."""
 
 import re
 import unittest
@@ -16,18 +16,19 @@ from xqs.values import events
 
 
 SMALL = mock.patch.multiple(packing, DEEPEST=2, LONGEST=120, SHORT=60, MOST_NODES=3)
-"""While little has room in a text."""
+"""A context in which texts have little room."""
 
 
 def nested(depth: int, inner: str) -> str:
-    """A node within so many elements."""
+    """A node inside this number of elements."""
     return "element e {" * depth + inner + "}" * depth
 
 
 @mock.patch.object(packing, "LEAST_PART", 0)
 class Packing(ServerTest):
     def stored_in_parts(self, text: str, limit: int) -> str:
-        """A document as it reads back that was stored in parts of so many bytes; the parts."""
+        """A document, read back after it was stored in parts of this number of bytes; and the
+        parts."""
         document = DocumentText(Temporary(), limit)
         parts = list(constructor_parts(document, events(text)))
         for part in parts:

@@ -1,4 +1,4 @@
-"""Where a text is refused: what is claimed holds, and nothing more is claimed."""
+"""The places of faults: each reported one is right, and nothing else is reported."""
 
 import os
 import random
@@ -18,7 +18,7 @@ FAULTS = (
     ("doc('it''s", 4, "is not closed"),
     ("1 (: a (: b :)", 2, "this comment is not closed"),
     ("count((1, 2)", 5, "this ( is not closed"),
-    ("(1, 2]", 5, "this ] stands where a ( is open"),
+    ("(1, 2]", 5, "this ] doesn't close the open ("),
     ("1 }", 2, "this } closes nothing"),
     ('"a & b"', 3, "&amp;"),
     ("1 # 2", 2, "no token begins with '#'"),
@@ -49,8 +49,8 @@ FAULTS = (
     ("", 0, "an expression is expected"),
     ("  (: c :) ", 10, "an expression is expected"),
     ("<a/>", 0, "an expression"),
-    ("1div 2", 1, "follows a number at once"),
-    ("1..2", 2, "follows a number at once"),
+    ("1div 2", 1, "follows a number directly"),
+    ("1..2", 2, "follows a number directly"),
     ("1.5e3", 0, "no exponent"),
     ("1.1234567", 0, "more than six digits"),
     ('"a&#0;"', 2, "&#0; names no character"),
@@ -90,7 +90,7 @@ class Places(ServerTest):
             error = future.exception()
             code = error.code if isinstance(error, Refused) else ""
             if code in ("XQST0090", "prof:DOUBLE", "prof:DIGITS", "FOAR0002", "prof:DEPTH"):
-                continue  # (told before the grammar is)
+                continue  # (reported before the grammar is read)
             place = places.find(asked, "XPST0003")
             with self.subTest(text):
                 self.assertEqual(place is not None, code == "XPST0003", code)
@@ -132,7 +132,7 @@ class Places(ServerTest):
 
 
 def mutated(chosen: random.Random, text: str) -> str:
-    """The text with a token taken away, doubled, put elsewhere or replaced."""
+    """The text with a token removed, doubled, moved or replaced."""
     pieces = [it.text for it in tokens(text)]
     other = ["for", "return", "(", ")", "$", "x", "/", "//", ",", "1", "if", "eq", "{", "}", "*",
              "text", "element", "@", "..", "::", ":=", "in", "'s'", "div", "[", "]", "child", "!"]

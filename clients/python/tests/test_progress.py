@@ -1,4 +1,4 @@
-"""What long commands say while they last, and what they refuse before they begin."""
+"""What long commands show while they run, and what they refuse before they begin."""
 
 import io
 import unittest
@@ -15,7 +15,7 @@ from xqs.xml_names import Names
 
 
 class Terminal(io.StringIO):
-    """A stream that says that it is a terminal."""
+    """A stream that claims to be a terminal."""
 
     def isatty(self) -> bool:
         return True
@@ -47,7 +47,7 @@ class Lines(unittest.TestCase):
 
 
 IN_PIECES = mock.patch.multiple(ranges, PIECE=200_000, FEW_NODES=10, WHOLE=1_000)
-"""While documents are read in pieces which a reply would have room for."""
+"""A context in which documents are read in pieces although they fit a reply."""
 
 
 class Bars(CommandTest):
@@ -94,7 +94,7 @@ class Judged(ServerTest):
     """What is refused before anything is sent."""
 
     def refused(self, text: str, line: int, column: int, why: str) -> None:
-        """That a text is refused at a place, and that nothing was stored for it."""
+        """Checks that a text is refused at a place, and that nothing of it was stored."""
         with mock.patch.object(self.server, "request_later") as sent, \
                 self.assertRaises(XmlFault) as caught:
             store_file(self.server, "x", io.BytesIO(text.encode()), "x.xml")
@@ -105,7 +105,7 @@ class Judged(ServerTest):
     def test_a_file_is_judged_before_its_first_part_is_sent(self) -> None:
         text = "<a>\n" + f"<b>{'t' * 900}</b>" * 3_000
         self.refused(text + "</c>", 2, 3_000 * 907 + 3, "mismatched tag")
-        self.refused(text + "<p:c/></a>", 2, 3_000 * 907 + 1, "wants namespaces")
+        self.refused(text + "<p:c/></a>", 2, 3_000 * 907 + 1, "needs namespaces")
         self.refused(text + "<c>" * 100, 2, 3_000 * 907 + 99 * 3 + 1, "deeper than 100 levels")
         self.refused(text + "&u;</a>", 2, 3_000 * 907 + 1, "undefined entity")
         with mock.patch("xqs.parts.MAX_NODES", 5_000):
@@ -161,7 +161,7 @@ class Switches(CommandTest):
         with mock.patch("xqs.load.Loader.load", side_effect=KeyboardInterrupt):
             status, _, said = self.run_command("load", self.folder / "in")
         self.assertEqual(status, 1)
-        self.assertIn("xqs load: interrupted; the same call goes on from here", said)
+        self.assertIn("xqs load: interrupted; the same command resumes from here", said)
 
 
 if __name__ == "__main__":

@@ -14,7 +14,7 @@ STORE_A = protocol.store_body("a", "document {}")
 
 
 def dialogue(side: str) -> bytes:
-    """The bytes of the page's dialogue that the client (`>`) or the server (`<`) writes."""
+    """The bytes in the page's dialogue that the client (`>`) or the server (`<`) writes."""
     return b"".join(bytes.fromhex(it[1]) for it in LINE.findall(DIALOGUE) if it[0] == side)
 
 

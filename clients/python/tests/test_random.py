@@ -1,4 +1,4 @@
-"""Random documents, in and out: by XML, by constructors, in parts."""
+"""Random documents, in and out: as XML, as constructors, in parts."""
 
 import random
 from xml.sax.saxutils import escape, quoteattr
@@ -17,7 +17,7 @@ NAMES = ("a", "b-c", "d.e", "_f", "é", "text", "element", "p:a", "p:_b", "q:a")
 
 
 class Documents:
-    """Random documents of one seed."""
+    """Random documents from one seed."""
 
     def __init__(self, seed: int) -> None:
         self._random = random.Random(seed)
@@ -27,12 +27,12 @@ class Documents:
         return "".join(self._random.choices(CHARACTERS, k=self._random.randrange(12)))
 
     def comment(self) -> str:
-        """A text that a comment and an instruction may hold."""
+        """A text that a comment or an instruction may hold."""
         text = self.text().replace("-", "").replace("?", "").replace("\r", "")
         return text.strip()
 
     def node(self, depth: int) -> Node:
-        """A node, with elements down to that depth."""
+        """A node, with elements down to this depth."""
         kind = self._random.choice((NodeKind.ELEMENT, NodeKind.ELEMENT, NodeKind.TEXT,
                                     NodeKind.COMMENT, NodeKind.INSTRUCTION))
         if kind is NodeKind.TEXT:
@@ -52,7 +52,7 @@ class Documents:
 
 
 def written(node: Node) -> str:
-    """A node as XML, by other means than the package's."""
+    """A node as XML, made by other means than the package's."""
     match node.kind:
         case NodeKind.TEXT:
             return escape(node.value, {"\r": "&#13;"})
@@ -66,7 +66,7 @@ def written(node: Node) -> str:
 
 
 def whole(node: Node) -> str:
-    """An element as a text of XML in which its prefixes are declared."""
+    """An element as a text of XML that declares its prefixes."""
     return f'<root xmlns:p="u:p" xmlns:q="u:q">{written(node)}</root>'
 
 

@@ -1,4 +1,4 @@
-"""A read writes nothing: documents over a reply are read in pieces that are found by sizes."""
+"""A read writes nothing: documents too long for a reply are read in pieces, found by sizes."""
 
 import threading
 import unittest
@@ -22,7 +22,7 @@ from xqs.stores import store_xml
 
 @contextmanager
 def small(piece: int = 300, most: int = 900) -> Iterator[None]:
-    """While a reply counts as too long above `most` characters, and pieces are smaller."""
+    """A context in which a reply is too long above `most` characters, and pieces are smaller."""
     query_text = Client.query_text
 
     def short(self: Client, query: str, **more: float) -> str:
@@ -127,7 +127,7 @@ class Alone(ServerTest):
 
 
 class Shared(FolderTest):
-    """Reads at a multiplexer, where other clients may come between."""
+    """Reads at a multiplexer, where other clients' requests may come between."""
 
     servers = 1
 
@@ -142,7 +142,7 @@ class Shared(FolderTest):
 
     @contextmanager
     def changing(self, change: Callable[[], object], most: int) -> Iterator[list[int]]:
-        """While a change is made within a read, in each of its first tries."""
+        """A context in which a change is made during a read, in each of its first tries."""
         reads = [0]
         pieces = Pieces.__iter__
 

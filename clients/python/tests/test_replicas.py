@@ -1,5 +1,5 @@
-"""Several servers as they are kept together, over servers that are played: thousands of requests,
-kills and refusals in orders of chance, each with a model beside it."""
+"""Several servers that are kept in step, with simulated servers: thousands of requests, kills and
+refusals in random orders, each checked by a model."""
 
 import asyncio
 import collections
@@ -29,7 +29,7 @@ _ASKED = re.compile(rb'(?:doc\(|\$a := )"([^"]+)"')
 
 
 class Process:
-    """What of a process is looked at."""
+    """The parts of a process that the code looks at."""
 
     def __init__(self) -> None:
         self.pid = 0
@@ -37,7 +37,7 @@ class Process:
 
 
 class PlayedServer:
-    """A server that is played: documents are numbers. It stands in for `mux_backend.Backend`."""
+    """A simulated server: documents are numbers. It stands in for `mux_backend.Backend`."""
 
     chance = random.Random(0)
     file: dict[bytes, int] = {}
@@ -114,7 +114,7 @@ class PlayedServer:
         return False
 
     def kill(self) -> None:
-        """Ends it; a write in a file that it was at may have been carried out."""
+        """Ends it; a write to a file that it worked on may have been carried out."""
         if self.ended.is_set():
             return
         self.task.cancel()
@@ -174,7 +174,7 @@ class Model:
 
 
 class PlayedClient:
-    """A client that sends ahead: stores of its own number, counts, and reads."""
+    """A client that sends ahead: stores of its own number, increments, and reads."""
 
     def __init__(self, number: int, servers: ManyServers, model: Model,
                  chance: random.Random) -> None:
@@ -189,7 +189,7 @@ class PlayedClient:
         self._last, self._own = [0] * len(ADDRESSES), 0
 
     async def run(self, count: int) -> None:
-        """Sends so many frames, and awaits their replies."""
+        """Sends this number of frames, and waits for their replies."""
         for _ in range(count):
             if self._peer.gone:
                 self._note_end()
@@ -242,8 +242,8 @@ class PlayedClient:
                 self._model.least[self._number] = known
 
     def _check(self, known: tuple[list[int], int], values: list[int]) -> None:
-        """A read is no staler than what was known, what this client read before, and its own
-        stores; and it sees none that came behind it."""
+        """Checks that a read is no staler than what was known, what this client read before, and
+        its own stores, and that it sees none that came after it."""
         floor, sent = known
         for least in (floor, self._last):
             assert all(it >= them for it, them in zip(values, least, strict=True)), (values, least)
@@ -292,13 +292,13 @@ class ReplicasTest(unittest.TestCase):
     """No client sees what one server would not have given."""
 
     def play(self, seed: int, on_file: bool, wants: float = 0.0) -> Model:
-        """One round: clients, kills and servers that want memory, in an order of chance."""
+        """One round: clients, kills, and servers that run out of memory, in a random order."""
         chance = random.Random(seed)
         return self.run_played(chance, wants, self.round(chance, on_file))
 
     @staticmethod
     def run_played(chance: random.Random, wants: float, work: Coroutine[Any, Any, T]) -> T:
-        """Runs it over servers that are played."""
+        """Runs it over simulated servers."""
         PlayedServer.chance, PlayedServer.file, PlayedServer.wants = chance, {}, wants
         PlayedServer.running, PlayedServer.faults = [], []
         with (mock.patch.object(replica_module, "Backend", PlayedServer),
@@ -309,7 +309,7 @@ class ReplicasTest(unittest.TestCase):
             return asyncio.run(asyncio.wait_for(work, 60))
 
     async def round(self, chance: random.Random, on_file: bool) -> Model:
-        """Plays it, and looks at the end whether all servers have the same documents."""
+        """Runs the round, and checks at the end that all servers have the same documents."""
         said: list[str] = []
         settings = Settings(servers=3, compare=20, slow=1e9, frames=chance.choice([300, 10**6]))
         servers = ManyServers(["s", *(["--file", "x"] if on_file else [])], settings, said.append)
@@ -340,13 +340,14 @@ class ReplicasTest(unittest.TestCase):
             victim.kill()
 
     async def settle(self, servers: ManyServers) -> None:
-        """Waits until all servers hold the documents, and have carried out what is in line."""
+        """Waits until all servers hold the documents, and have carried out their queues."""
         while any(it.state is not State.READY or it.waiting or not it.runs
                   for it in servers.replicas.all):
             await asyncio.sleep(0)
 
     def check(self, model: Model, servers: ManyServers, said: list[str]) -> None:
-        """All have the same documents, and each count was carried out once, or is unknown."""
+        """Checks that all have the same documents, and that each increment was carried out once, or
+        is unknown."""
         backends: list[Any] = [it.backend for it in servers.replicas.all]
         documents = [it.documents for it in backends]
         self.assertEqual(servers.replicas.differs, "", said)
@@ -356,7 +357,7 @@ class ReplicasTest(unittest.TestCase):
                         (count, model.counted, model.unknown))
 
     async def leave_alone(self) -> None:
-        """Has a server leave while the others end."""
+        """Removes a server while the others end."""
         servers = ManyServers(["s"], Settings(servers=3), lambda line: None)
         await servers.start()
         await self.settle(servers)
@@ -375,7 +376,7 @@ class ReplicasTest(unittest.TestCase):
         await servers.abandon()
 
     async def fail_to_fill(self) -> None:
-        """Has a server in memory fail to begin more often than any may, while the file is opened
+        """A server in memory fails to start more often than allowed, while the file is opened
         again; then both go on."""
         said: list[str] = []
         servers = ManyServers(["s", "--file", "x"], Settings(servers=2), said.append)

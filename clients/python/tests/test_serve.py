@@ -1,4 +1,4 @@
-"""A file that is in use is used: `xqs serve`, the commands that find it, and `xqs stop`."""
+"""Shared use of a file: `xqs serve`, the commands that find it, and `xqs stop`."""
 
 import os
 import signal
@@ -22,7 +22,7 @@ from xqs.served import NoSocket, NotThisFile, asked_at, socket_of, socket_path
 
 
 class ServeTest(CommandTest):
-    """A file `self.path`, which is served no longer once a test has ended."""
+    """A file `self.path`, which is no longer served after a test."""
 
     def setUp(self) -> None:
         super().setUp()
@@ -68,7 +68,7 @@ class Served(ServeTest):
         self.assertEqual(stat.S_IMODE(self.socket.stat().st_mode), 0o600)
         [keeper] = children_of(self.server())
         below = children_of(keeper)
-        self.words[1] = "/bin/false"  # What would be started ends at once.
+        self.words[1] = "/bin/false"  # A server that these commands would start ends at once.
         xml = self.write("a.xml", "<a>1</a>")
         backup = self.folder / "x.backup"
         commands: list[tuple[list[str | Path], str | None]] = [
@@ -140,7 +140,7 @@ class Ends(ServeTest):
             time.sleep(0.5)
             done = self.stop("--wait", "1")
             self.assertEqual(done.returncode, 1)
-            self.assertIn("is served still after 1 seconds", done.stderr)
+            self.assertIn("is still served after 1 seconds", done.stderr)
             wait_until(lambda: not self.socket.exists(), "it goes on to listen")
             client.kill()
         wait_until(lambda: not running(str(self.path)), "it does not end")

@@ -1,8 +1,8 @@
-"""The sessions that README.md and the pages of docs/ show give what they say, line by line.
+"""Runs the sessions of README.md and docs/, and compares their output line by line.
 
-A session is an indented block with lines that begin with `$ `; what follows such a line is what it
-prints. White space and line breaks count as one blank, since pages wrap long lines; `..` stands for
-anything, and so do sizes, times and numbers of processes.
+A session is an indented block with lines that begin with `$ `; the lines after such a line are its
+output. White space and line breaks count as one blank, since pages wrap long lines; `..` stands for
+anything, and so do sizes, times and process numbers.
 """
 
 import importlib.util
@@ -23,16 +23,16 @@ from tests.support import TOP, FolderTest, server_command
 
 SOURCES = TOP / "clients" / "python" / "src"
 PORT = "8984"
-"""The port that the pages name; another one stands for it here."""
+"""The port in the pages; the tests use another one."""
 LIBRARY = ('<lib><book id="1"><title>Ink</title></book>'
            '<book id="2"><title>Paper</title></book></lib>')
 ANYTHING = re.compile(r"\d+ bytes|\d+\.\d+ MB in \d+\.\d+ s|\(lines? \d+\)|\.\.")
-"""What is another thing each time."""
+"""What differs each time."""
 
 
 @dataclass(frozen=True)
 class Step:
-    """A command of a session, and what it prints."""
+    """A command of a session, and its output."""
 
     command: str
     prints: str
@@ -58,7 +58,7 @@ def _steps(lines: list[str]) -> Iterator[Step]:
 
 
 def is_as_told(found: str, told: str) -> bool:
-    """Whether what was printed is what a page tells."""
+    """Whether the output is what the page shows."""
     parts = ANYTHING.split(" ".join(told.split()))
     pattern = ".*".join(re.escape(it.strip()) for it in parts)
     return re.fullmatch(pattern, " ".join(found.split()), re.DOTALL) is not None
@@ -78,19 +78,19 @@ class Sessions(FolderTest):
             self.place = f"127.0.0.1:{free.getsockname()[1]}"
 
     def script(self, name: str, words: str) -> None:
-        """A program of the folder that goes on to another one."""
+        """A program in the folder that runs another one."""
         path = self.folder / name
         path.write_text(f'#!/bin/sh\nexec {words} "$@"\n')
         path.chmod(0o755)
 
     def environment(self) -> dict[str, str]:
-        """That of the commands."""
+        """The environment of the commands."""
         own = {"PYTHONPATH": str(SOURCES), "XQS_SERVER": "./serve", "HOME": str(self.folder),
                "XDG_STATE_HOME": str(self.folder / "state"), "COLUMNS": "100"}
         return {**os.environ, **own}
 
     def run_command(self, command: str, typed: str = "") -> str:
-        """What a command prints, on both streams."""
+        """The output of a command, on both streams."""
         ended = subprocess.run(
             ["bash", "-c", command.replace(f"127.0.0.1:{PORT}", self.place)], cwd=self.folder,
             env=self.environment(), input=typed, stdout=subprocess.PIPE, stderr=subprocess.STDOUT,
@@ -98,7 +98,7 @@ class Sessions(FolderTest):
         return ended.stdout
 
     def check(self, step: Step) -> None:
-        """Runs a command, and compares what it prints."""
+        """Runs a command, and compares its output."""
         with self.subTest(step.command):
             if step.command.startswith("cat "):
                 (self.folder / step.command.split()[1]).write_text(step.prints + "\n")
@@ -109,7 +109,7 @@ class Sessions(FolderTest):
                 self.assertTrue(is_as_told(found, step.prints), f"{found}\nis not\n{step.prints}")
 
     def check_shell(self, step: Step) -> None:
-        """Types what stands behind prompts, and compares what comes."""
+        """Types the texts after the prompts, and compares the output."""
         lines = step.prints.splitlines()
         prompt = re.compile(r"(xqs|\.\.\.)> ")
         typed = "\n".join(it[5:] for it in lines if prompt.match(it))
@@ -142,7 +142,7 @@ class Protocol(Sessions):
 
 
 class Clients(Sessions):
-    """docs/CLIENTS.md; each session begins with files and documents that its text speaks of."""
+    """docs/CLIENTS.md; each session begins with the files and documents that its text mentions."""
 
     def steps(self, mark: str) -> list[Step]:
         """The session with a command that has the mark."""
@@ -185,7 +185,7 @@ class Clients(Sessions):
     @unittest.skipUnless(shutil.which("curl") and importlib.util.find_spec("aiohttp"),
                          "it wants curl and python3-aiohttp")
     def test_http(self) -> None:
-        self.write(".curlrc", "silent\n")  # (as where its output is a terminal)
+        self.write(".curlrc", "silent\n")  # (as if its output were a terminal)
         self.write("books.xml", '<lib><book id="1">A &amp; B</book></lib>')
         self.write("new.xml", "<lib/>")
         words = ["./xqs", "web", "--token-file", "token", "--listen", self.place, "--", "./serve",

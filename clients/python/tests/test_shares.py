@@ -1,4 +1,4 @@
-"""What the servers of one command have together: memory, and rows that they keep."""
+"""What the servers of one command share: memory, and the cache of rows."""
 
 import asyncio
 import os
@@ -21,18 +21,18 @@ SERVERS = 3
 
 
 def words_of(process: int) -> list[str]:
-    """The words by which a process was started."""
+    """The words that a process was started with."""
     return Path(f"/proc/{process}/cmdline").read_bytes().decode().split("\0")[:-1]
 
 
 def kept_of(process: int) -> int | None:
-    """The megabytes that a server was told to keep."""
+    """The megabytes that a server may keep, by its command."""
     words = words_of(process)
     return int(words[words.index("--kept") + 1]) if "--kept" in words else None
 
 
 def memory_of(process: int) -> int:
-    """The bytes of addresses that a process may have."""
+    """The bound on a process's address space, in bytes."""
     [line] = [it for it in Path(f"/proc/{process}/limits").read_text().splitlines()
               if it.startswith("Max address space")]
     return int(line.split()[3])
@@ -78,7 +78,7 @@ class MuxSharesTest(FolderTest):
         while len(now := set(mux.server_ids()) - set(before)) < SERVERS:
             self.assertLess(time.monotonic(), end, mux.said())
             time.sleep(0.05)
-        time.sleep(0.2)  # (a keeper runs the server once it has set its bound)
+        time.sleep(0.2)  # (a keeper runs the server after it has set its bound)
         self.assertEqual([memory_of(it) for it in sorted(now)], [1 << 30] * SERVERS)
         self.assertEqual([kept_of(it) for it in sorted(now)], [42] * SERVERS)
 
@@ -114,7 +114,7 @@ class NodeSharesTest(FolderTest):
 
 
 class KeepingTest(unittest.TestCase):
-    """The words of a command that keeps its share."""
+    """The words of a command that has a share of its own."""
 
     def test_each_has_an_equal_share(self) -> None:
         for megabytes, servers, share in ((128, 1, ""), (128, 3, "42"), (0, 3, ""), (2, 3, "1"),

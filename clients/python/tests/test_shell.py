@@ -1,4 +1,4 @@
-"""The shell: its commands, what goes on in the next line, completion, and a terminal."""
+"""The shell: its commands, texts over several lines, completion, and a terminal."""
 
 import fcntl
 import io
@@ -35,7 +35,7 @@ class Sessions(ServerTest):
         self.server.store("b", LIBRARY)
 
     def asked(self, text: str) -> str:
-        """What is shown, or else said, of a text."""
+        """The answer to a text, or else the message."""
         self.shown.clear()
         self.said.clear()
         self.session.run(text)
@@ -67,7 +67,7 @@ class Sessions(ServerTest):
     def test_documents(self) -> None:
         file = self.folder / "a b.xml"
         file.write_text("<p:a xmlns:p='u'/>")
-        self.assertIn("wants namespaces", self.asked(f'.store x "{file}"'))
+        self.assertIn("needs namespaces", self.asked(f'.store x "{file}"'))
         self.assertEqual(self.asked(".names flat"), "")
         self.assertEqual(self.asked(f'.store x "{file}"'), "stored")
         self.assertEqual(self.asked(".list"), "b\nx")
@@ -151,7 +151,7 @@ class Sessions(ServerTest):
 
 
 def take_terminal() -> None:
-    """Makes standard input the terminal of this process; its interrupts come through, even where
+    """Makes standard input the terminal of this process, and lets its interrupts through, even if
     the tests run in the background of a script, which ignores them."""
     signal.signal(signal.SIGINT, signal.SIG_DFL)
     fcntl.ioctl(0, termios.TIOCSCTTY, 0)
@@ -161,8 +161,8 @@ class TerminalTest(FolderTest):
     """Runs the shell on a terminal of its own."""
 
     def typed(self, lines: list[str], *words: str, marks: dict[int, str] | None = None) -> str:
-        """What stands on the terminal after these lines were typed, each once the prompt is there,
-        or what `marks` has for it in its place."""
+        """The terminal's text after these lines were typed, each once the prompt is there, or what
+        `marks` has in place of the prompt."""
         command = [sys.executable, "-m", "xqs", "shell", "--server", " ".join(server_command())]
         environment = {**os.environ, "PYTHONPATH": str(TOP / "clients" / "python" / "src"),
                        "XDG_STATE_HOME": str(self.folder), "TERM": "xterm", "PROMPT_TOOLKIT_NO_CPR":
@@ -176,13 +176,13 @@ class TerminalTest(FolderTest):
         screen = Screen(outer)
         before = ""
         for number, line in enumerate(lines):
-            # (an interrupt that comes as the shell begins to wait is seen with the next key alone)
+            # (an interrupt just before the shell begins to wait is seen only with the next key)
             again = before if before == INTERRUPT else ""
             screen.wait_for((marks or {}).get(number, ">").encode(), again.encode())
             time.sleep(0.5 if line == INTERRUPT else 0)
             os.write(outer, line.encode())
             before = line
-        # (a Ctrl+D that comes before the prompt stands is no end of a line that is edited)
+        # (a Ctrl+D that comes before the prompt doesn't end a line that is edited)
         screen.wait_for(None, END if before.endswith(END.decode()) else b"")
         process.wait(30)
         os.close(outer)
@@ -230,10 +230,10 @@ class Terminal(TerminalTest):
                        marks={1: "$x > 0\r\n", 2: "is ended"})
             self.assertLess(time.monotonic() - begin, 50)
             with connect(file_server(self.folder / "x.db")) as client:
-                self.assertEqual(client.list(), [])  # (nobody holds the file any more)
+                self.assertEqual(client.list(), [])  # (no process holds the file any more)
 
     def test_interrupts_leave_the_server(self) -> None:
-        # (many times the half second after which it is interrupted, on a fast machine too)
+        # (many times the half second before the interrupt, on a fast machine too)
         slow = "every $x in 1 to 3000, $y in 1 to 3000 satisfies $x * $y > 0\r"
         lines = ["(1", INTERRUPT, "2 + 3\r", slow, INTERRUPT, "3 + 4\r", ".quit\r"]
         marks = {1: "(1", 4: "$y > 0\r\n", 5: "interrupted", 6: "7\r\n"}
@@ -250,7 +250,7 @@ class Screen:
         self.seen = b""
 
     def wait_for(self, mark: bytes | None, again: bytes = b"") -> None:
-        """Reads up to the next such mark, or to the end; `again` is typed every ten seconds."""
+        """Reads up to the next such mark, or to the end; types `again` every ten seconds."""
         end = time.monotonic() + 120
         typed = time.monotonic()
         while time.monotonic() < end:
@@ -266,7 +266,7 @@ class Screen:
         raise TimeoutError(f"{mark!r} does not come: {self.seen!r}")
 
     def _read(self) -> bool:
-        """Whether something came, and not the end."""
+        """Whether something came, rather than the end."""
         try:
             piece = os.read(self._terminal, 1 << 16)
         except OSError:
@@ -276,7 +276,7 @@ class Screen:
 
 
 class TerminalText(io.StringIO):
-    """An output that says it is a terminal."""
+    """An output that claims to be a terminal."""
 
     def isatty(self) -> bool:
         return True
@@ -284,7 +284,7 @@ class TerminalText(io.StringIO):
 
 class Lines(FolderTest):
     def run_with(self, text: str, *words: str) -> tuple[int, str, str]:
-        """The status of the shell over these lines, its output, and what it says."""
+        """The status, output and messages of the shell over these lines."""
         out, said = io.StringIO(), io.StringIO()
         with mock.patch("sys.stdin", io.StringIO(text)), redirect_stdout(out):
             with redirect_stderr(said):

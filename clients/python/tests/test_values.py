@@ -1,4 +1,4 @@
-"""Printed values read, and printed again."""
+"""Printed values, read and printed again."""
 
 import re
 import unittest
@@ -15,7 +15,7 @@ CODE = re.compile(r"`([A-Z]{4}\d{4}|prof:[A-Z0-9]+)`")
 
 
 def printed(items: list[Item]) -> str:
-    """Items as the server prints them, but for the brackets around numbers."""
+    """Items as the server prints them, except for the brackets around numbers."""
     return ", ".join(re.sub(r"\A\((.*)\)\Z", r"\1", literal(it)) for it in items) or "()"
 
 

@@ -1,4 +1,5 @@
-"""Entity tags and conditions, lists in pages, parameters, character sets: what needs no HTTP."""
+"""Entity tags and conditions, pages of lists, parameters, character sets: the parts without
+HTTP."""
 
 import asyncio
 import unittest
@@ -23,7 +24,7 @@ class Given:
 
 
 class TagsTest(unittest.TestCase):
-    """Tags, and what requests want of them."""
+    """Tags, and the conditions of requests on them."""
 
     def test_tags_differ_by_state_and_form(self) -> None:
         forms = ("application/xml", "text/plain")

@@ -1,4 +1,4 @@
-"""What `xqs web` is made of, where that needs no HTTP: forms, queries, statuses, who may ask."""
+"""The parts of `xqs web` without HTTP: forms, queries, statuses, access."""
 
 import os
 import stat
@@ -31,7 +31,7 @@ from xqs.xml_out import FLAT
 
 
 class FormsTest(unittest.TestCase):
-    """Forms of values, and which one is given."""
+    """Forms of values, and which one is chosen."""
 
     def test_the_form_that_is_liked_best(self) -> None:
         browser = "text/html,application/xhtml+xml,application/xml;q=0.9,*/*;q=0.8"

@@ -13,7 +13,7 @@ SOME = 'element a {attribute b {"}"}, comment {"{"}, element c {text {"t"}}}, 1,
 
 
 def node_of(tree: list[object]) -> Node:
-    """The node of a tree of the page."""
+    """A node in a tree of the page."""
     kind, name, *rest = tree
     node = Node(NodeKind(str(kind)), str(name))
     if len(rest) == 1:
@@ -104,7 +104,7 @@ class LinesTest(unittest.TestCase):
 
 
 class TableTest(unittest.TestCase):
-    """Sequences that are tables."""
+    """Sequences that make tables."""
 
     def test_elements_with_the_same_parts(self) -> None:
         text = ('element r {attribute k {"1"}, element n {text {"A"}}, element v {text {"2.5"}}}, '

@@ -25,7 +25,7 @@ BOMB = b"""<!DOCTYPE a [<!ENTITY a "ha"><!ENTITY b "&a;&a;&a;&a;&a;&a;&a;&a;&a;&
 
 def constructor(text: str | bytes, choices: XmlChoices = XmlChoices(), size: int = 1 << 16,
                 charset: str | None = None) -> str:
-    """The constructor that XML becomes, read in pieces of so many bytes."""
+    """The constructor from XML, read in pieces of this number of bytes."""
     data = text.encode() if isinstance(text, str) else text
     reader = XmlReader("x.xml", Temporary(), choices, charset)
     for at in range(0, len(data), size):
@@ -61,8 +61,8 @@ class Refusals(unittest.TestCase):
         self.refused("<a>\0</a>", 1, 4, "invalid token")
 
     def test_names_with_a_colon(self) -> None:
-        self.refused("<a>\n  <p:b/>\n</a>", 2, 3, "the name p:b wants namespaces")
-        self.refused('<a xmlns="u"/>', 1, 1, "the name xmlns wants namespaces")
+        self.refused("<a>\n  <p:b/>\n</a>", 2, 3, "the name p:b needs namespaces")
+        self.refused('<a xmlns="u"/>', 1, 1, "the name xmlns needs namespaces")
         self.refused("<a__b/>", 1, 1, "has __", FLAT)
         self.refused("<p_:a/>", 1, 1, "ends in _", FLAT)
         self.refused("<a><:b/></a>", 1, 4, "not a prefix", FLAT)
@@ -74,13 +74,13 @@ class Refusals(unittest.TestCase):
         self.assertEqual(constructor(text, XmlChoices(entities=True)),
                          'document {element a {text {"x"}}}')
         self.refused(BOMB, 1, 25, "declared here")
-        self.refused('<!DOCTYPE a SYSTEM "a.dtd">\n<a>&e;</a>', 2, 4, "outside of this text")
+        self.refused('<!DOCTYPE a SYSTEM "a.dtd">\n<a>&e;</a>', 2, 4, "outside this text")
         self.refused('<!DOCTYPE a [<!ENTITY e SYSTEM "/etc/hostname">]>\n<a>&e;</a>', 2, 4,
                      "/etc/hostname, which is not read", XmlChoices(entities=True))
 
     def test_entities_that_are_not_known_are_refused_in_values_of_attributes_too(self) -> None:
         asked = XmlChoices(entities=True)
-        why = "the entity u is declared outside of this text"
+        why = "the entity u is declared outside this text"
         for before, tag, column in (
             ("", '<a y="1" x="&u;1"/>', 1), ("", "<a y='\"' x='1>2&u;'/>", 1),
             ('<!ENTITY f "1&u;2">', '<a x="&f;"/>', 1),
@@ -263,7 +263,7 @@ class Chunks(unittest.TestCase):
 
 class Stores(ServerTest):
     def stored_as(self, text: str, choices: XmlChoices = XmlChoices()) -> int:
-        """Stores XML, compares canonical forms, and gives the number of parts."""
+        """Stores XML, and compares canonical forms. Returns the number of parts."""
         stored = store_xml(self.server, "x", [text.encode()], "x.xml", choices)
         self.assertEqual(self.server.list(), ["x"])
         [document] = self.server.query('doc("x")')

@@ -1,4 +1,4 @@
-"""XML in any encoding, and where the transport or the text says which."""
+"""XML in any encoding, given by the transport or the text."""
 
 import unittest
 
@@ -7,7 +7,7 @@ from xqs.xml_decoding import codec_of, encoding_of
 from xqs.xml_in import XmlFault
 
 SIZES = (1, 3, 1 << 16)
-"""Texts are read in pieces of so many bytes."""
+"""Texts are read in pieces of these numbers of bytes."""
 WORDS = {
     "Shift_JIS": "日本語ー", "EUC-JP": "日本語ー", "ISO-2022-JP": "日本語", "EUC-KR": "한국어",
     "GB2312": "中文", "GBK": "中文镕", "GB18030": "中文\U0001f600", "Big5": "中文",
@@ -17,7 +17,7 @@ WORDS = {
 
 
 def declared(name: str, text: str) -> str:
-    """A text of XML that says its encoding."""
+    """A text of XML that declares its encoding."""
     return f"<?xml version='1.0' encoding='{name}'?>\n<a>{text}</a>"
 
 

@@ -1,5 +1,5 @@
-"""A program in the place of a server: it has no document, and wants the store for each that is to
-be stored, but for those whose text has the word `good`; it ends at the word `end`."""
+"""A program in place of a server: it has no document, and answers `store` to each store, unless its
+text has the word `good`; it ends at the word `end`."""
 
 import os
 import sys

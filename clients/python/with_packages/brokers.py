@@ -1,7 +1,7 @@
 """Brokers of RabbitMQ on loopback for tests: started, killed, stopped, and ended by their ids.
 
-Each has its own ports, its own name and its own folder, and they share an epmd of their own, so
-that nothing of a broker which the system runs is touched.
+Each has its own ports, name and folder, and they share an epmd of their own, so that no broker of
+the system is touched.
 """
 
 import os
@@ -18,14 +18,14 @@ from pathlib import Path
 from tests.serving import die_with_parent
 
 SCRIPT = "/usr/lib/rabbitmq/bin/rabbitmq-server"
-"""The package's own script; that on the path asks for its user and its folders."""
+"""The package's own script; the one on the path needs its user and its folders."""
 PATIENCE = 300.0
-"""Seconds for a broker to begin, on a machine that has other work."""
+"""Seconds for a broker to begin, on a busy machine."""
 NAMES = ("a", "b", "c")
 
 
 def missing() -> str:
-    """What is not installed; an empty text where all is."""
+    """The missing packages; empty if there are none."""
     if not Path(SCRIPT).exists():
         return "rabbitmq-server is not installed"
     return "" if shutil.which("epmd") else "epmd is not installed"
@@ -41,7 +41,7 @@ def free_ports(count: int) -> list[int]:
 
 
 class Brokers:
-    """A cluster of brokers, which keep what they are given until the folder is removed."""
+    """A cluster of brokers, which keep their data until the folder is removed."""
 
     def __init__(self, count: int = 3) -> None:
         if why := missing():
@@ -78,13 +78,13 @@ class Brokers:
         return f"{name}{self._epmd_port}@localhost"
 
     def address(self, log: str, first: int = 0, account: str = "guest:guest") -> str:
-        """What `xqs node --log` takes for a log; another broker first for each node."""
+        """The log for `xqs node --log`, with another broker first for each node."""
         names = self.names[first:] + self.names[:first]
         hosts = [f"127.0.0.1:{self.ports[name]}" for name in names]
         return f"amqp://{account}@{hosts[0]}/{log}" + "".join(f",{it}" for it in hosts[1:])
 
     def start_all(self) -> None:
-        """Starts all, the first one alone, so that the others find it."""
+        """Starts all brokers; the first one alone, so that the others find it."""
         self.start(self.names[0])
         self.wait_for(self.names[0])
         for name in self.names[1:]:
@@ -93,7 +93,7 @@ class Brokers:
             self.wait_for(name)
 
     def start(self, name: str) -> None:
-        """Starts a broker, with what it kept."""
+        """Starts a broker with the data that it kept."""
         folder = self.folder / name
         folder.mkdir(exist_ok=True)
         with open(folder / "output", "ab") as output:
@@ -114,7 +114,7 @@ class Brokers:
             "RABBITMQ_CONFIG_FILE": str(self.folder / f"{name}.conf"),
             "RABBITMQ_ENABLED_PLUGINS_FILE": str(self.folder / "plugins"),
             "RABBITMQ_CONF_ENV_FILE": str(self.folder / "environment"),
-            # In the foreground, as this process; it reads nothing.
+            # In the foreground, as this process; it reads no input.
             "RABBITMQ_ALLOW_INPUT": "1", "RABBITMQ_SERVER_START_ARGS": "-noinput",
             "RABBITMQ_SERVER_ADDITIONAL_ERL_ARGS":
                 "+S 2:2 +sbwt none +sbwtdcpu none +sbwtdio none "
@@ -152,7 +152,7 @@ class Brokers:
         self._processes[name].wait(PATIENCE)
 
     def control(self, name: str, *words: str) -> str:
-        """What `rabbitmqctl` prints when it asks a broker."""
+        """The output of `rabbitmqctl` for a broker."""
         done = subprocess.run(
             [str(Path(SCRIPT).with_name("rabbitmqctl")), "--node", self._node(name), *words],
             env=self._environment(name), capture_output=True, text=True, timeout=PATIENCE,
@@ -160,7 +160,7 @@ class Brokers:
         return done.stdout
 
     def close(self) -> None:
-        """Ends all brokers, and removes what they kept."""
+        """Ends all brokers, and removes their data."""
         for process in [*self._processes.values(), self._epmd]:
             if process.poll() is None:
                 process.send_signal(signal.SIGCONT)

@@ -1,4 +1,4 @@
-"""Nodes as processes over brokers that run, and writers and readers at them."""
+"""Nodes as processes over running brokers, and writers and readers at them."""
 
 import asyncio
 import os
@@ -20,7 +20,7 @@ from xqs.cluster.steps import VARIABLE
 from xqs.errors import Closed, Refused, Wanting, XqError
 
 BEGINNING = 120.0
-"""Seconds for a node to begin or to end, on a machine that has other work."""
+"""Seconds for a node to begin or to end, on a busy machine."""
 SHARED = "total"
 COUNT_UP = ('document {element n {(if (doc-available("total")) '
             'then xs:integer(string(doc("total")/n)) else 0) + 1}}')
@@ -32,7 +32,7 @@ def value(number: int) -> str:
 
 
 class RunningNode(Running):
-    """A node, which keeps its name, its place and its folders over its lives."""
+    """A node, which keeps its name, its place and its folders when it is restarted."""
 
     def __init__(self, name: str, brokers: Brokers, log: str, folder: Path, *options: str,
                  first: int = 0, command: Sequence[str] = (),
@@ -57,7 +57,7 @@ class RunningNode(Running):
             self.wait_until_it_listens()
 
     def wait_until_it_listens(self) -> None:
-        """Waits until it follows the log; where it does not, tells how far it is."""
+        """Waits until it follows the log; the error says how far it has come."""
         try:
             self.wait_for("listens at ", BEGINNING)
         except AssertionError as error:
@@ -70,7 +70,7 @@ class RunningNode(Running):
             raise AssertionError(f"{error}; {load}; {states}") from error
 
     async def wait(self) -> None:
-        """As `wait_until_it_listens`, for asyncio."""
+        """Like `wait_until_it_listens`, for asyncio."""
         await asyncio.to_thread(self.wait_until_it_listens)
 
     def kill(self) -> None:
@@ -83,7 +83,7 @@ class RunningNode(Running):
                 os.kill(server, signal.SIGKILL)
 
     async def connect(self) -> AsyncClient:
-        """A client of it; waits where it does not run now. TimeoutError."""
+        """A client of it; waits if it does not run now. Raises TimeoutError."""
         async with asyncio.timeout(BEGINNING):
             while True:
                 with suppress(OSError):
@@ -91,8 +91,8 @@ class RunningNode(Running):
                 await asyncio.sleep(0.1)
 
     async def store(self, address: str, query: str) -> None:
-        """Stores a document, and again where the stream ends before the reply, as it does where a
-        server of the node has ended: what is stored twice is there once. TimeoutError."""
+        """Stores a document, and again if the stream ends before the reply, as when a server of the
+        node has ended: storing twice has the same effect. Raises TimeoutError."""
         async with asyncio.timeout(BEGINNING):
             while True:
                 with suppress(Closed, OSError):
@@ -108,14 +108,15 @@ class RunningNode(Running):
                     for it in await client.list()}
 
     async def snapshot(self, request: str = "snapshot") -> str:
-        """What it says of a snapshot that it is asked for."""
+        """The answer to a request for a snapshot."""
         return (await asyncio.to_thread(control.ask, self.snapshots, request))[1]
 
 
 class Writer:
-    """A client of a node that counts a document of its own up, and a shared one, and reads.
+    """A client of a node that increments a document of its own and a shared one, and reads.
 
-    What it is not told of leaves it with another document: nobody knows what becomes of the first.
+    After a write without a reply it goes on with another document: the outcome for the first is
+    unknown.
     """
 
     def __init__(self, node: RunningNode, number: int, history: History,
@@ -131,7 +132,7 @@ class Writer:
         self._chance = random.Random(f"{self.name}")
 
     async def work(self, until: float, is_fresh: bool = False) -> None:
-        """Writes and reads up to that time."""
+        """Writes and reads until that time."""
         while time.monotonic() < until and not self.faults:
             client = await self._node.connect()
             try:
@@ -185,7 +186,7 @@ class Writer:
         self._history.count(True)
 
     async def _read(self, client: AsyncClient, is_fresh: bool) -> None:
-        """Reads its own document, or where reads are fresh anybody's."""
+        """Reads its own document, or with fresh reads anybody's."""
         of = self._chance.choice(self.others or [self]) if is_fresh else self
         sent, address = time.monotonic(), of.address
         query = f'for $a in "{address}" where doc-available($a) return string(doc($a))'
@@ -199,7 +200,7 @@ class Writer:
 
 class Watcher:
     """A client of a node that reads the shared document again and again, sometimes several times
-    ahead: no read may see less than one before it, over all lives of the node."""
+    ahead: no read may see less than one before it, even after the node is restarted."""
 
     def __init__(self, node: RunningNode) -> None:
         self.faults: list[str] = []
@@ -209,7 +210,7 @@ class Watcher:
         self._last = 0
 
     async def work(self, until: float) -> None:
-        """Reads up to that time."""
+        """Reads until that time."""
         while time.monotonic() < until:
             with suppress(Closed, OSError, TimeoutError, Refused, Wanting):
                 async with await self._node.connect() as client:
@@ -232,8 +233,8 @@ class Watcher:
 
 
 async def follows_again(node: RunningNode, since: float, seconds: float) -> float | None:
-    """Seconds from a time to the first store after it that a node answers; None where it answers
-    none within so many seconds of now."""
+    """Seconds from a time to the first store after it that a node answers; None if it answers none
+    within `seconds` from now."""
     end = time.monotonic() + seconds
     while time.monotonic() < end:
         with suppress(XqError, OSError, TimeoutError):
@@ -248,8 +249,8 @@ async def follows_again(node: RunningNode, since: float, seconds: float) -> floa
 async def all_taken(nodes: Sequence[RunningNode]) -> None:
     """Waits until each node has carried out all that the log held when this was called.
 
-    A write of each node, answered by that node, stands behind all that is in the log already; those
-    of the others come within the time that a further write takes.
+    A write of each node, answered by that node, comes after all that is in the log already; those
+    of the others come within the time of a further write.
     """
     for turn in range(2):
         for node in nodes:

@@ -22,12 +22,12 @@ KEYS = {
     "Enter": (13, "\r"), "Tab": (9, ""), "Home": (36, ""), "End": (35, ""), " ": (32, " "),
     "ArrowLeft": (37, ""), "ArrowUp": (38, ""), "ArrowRight": (39, ""), "ArrowDown": (40, ""),
 }
-"""The number of each key that is pressed here, and its text."""
+"""The number and text of each key that is pressed here."""
 CTRL, SHIFT = 2, 8
 
 
 class Browser:
-    """A browser with one page. Nothing of it outlives `close`."""
+    """A browser with one page. Nothing of it is left after `close`."""
 
     def __init__(self) -> None:
         self._folder = tempfile.mkdtemp(prefix="xqs-chromium-")
@@ -85,7 +85,7 @@ class Browser:
         return result["result"].get("value")
 
     def wait_for(self, script: str) -> Any:
-        """Waits until an expression in the page is true; gives its value."""
+        """Waits until an expression in the page is true. Returns its value."""
         end = time.monotonic() + PATIENCE
         while not (value := self.evaluate(script)):
             if time.monotonic() > end:
@@ -102,7 +102,7 @@ class Browser:
         self.wait_for("location.href !== 'about:blank' && document.readyState === 'complete'")
 
     def press(self, key: str, modifiers: int = 0) -> None:
-        """Presses a key and lets it go."""
+        """Presses and releases a key."""
         number, text = KEYS[key]
         common = {"key": key, "windowsVirtualKeyCode": number, "modifiers": modifiers}
         if text and not modifiers & CTRL:
@@ -116,7 +116,7 @@ class Browser:
         self.call("Input.insertText", text=text)
 
     def prefer(self, scheme: str) -> None:
-        """Has the user prefer the colour scheme `dark` or `light`."""
+        """Sets the user's preference for the colour scheme, `dark` or `light`."""
         features = [{"name": "prefers-color-scheme", "value": scheme}]
         self.call("Emulation.setEmulatedMedia", features=features)
 

@@ -1,8 +1,8 @@
-"""Machines for tests: network namespaces on one bridge, each with files and processes of its own.
+"""Machines for tests: network namespaces on one bridge, each with its own files and processes.
 
-Each machine has its own network, name, process ids and mounts: /etc, /var, /root and /opt are
-those of this machine with its own changes over them, which are removed at the end. `systemctl` and
-`apt-get` are stand-ins. It wants root, `ip` and `unshare`; nothing of this machine is changed.
+Each machine has its own network, name, process ids and mounts: /etc, /var, /root and /opt are those
+of this machine with its own changes over them, which are removed at the end. `systemctl` and
+`apt-get` are stand-ins. This needs root, `ip` and `unshare`, and changes nothing of this machine.
 """
 
 import os
@@ -16,7 +16,7 @@ from pathlib import Path
 NAMES = ("m1", "m2", "m3")
 OVERLAID = ("etc", "var", "root", "opt")
 PATIENCE = 600.0
-"""Seconds for a command, on a machine that has other work."""
+"""Seconds for a command, on a busy machine."""
 _INIT = """
 set -eu
 echo {name} > /proc/sys/kernel/hostname
@@ -98,7 +98,7 @@ done
 
 
 def missing() -> str:
-    """What keeps machines from being made; empty where nothing does."""
+    """Why machines can't be made; empty if they can."""
     if os.geteuid():
         return "machines of their own want root"
     wanted = [it for it in ("ip", "unshare", "nsenter", "setpriv") if not shutil.which(it)]
@@ -106,7 +106,7 @@ def missing() -> str:
 
 
 def command(*words: str) -> str:
-    """Runs a command of this machine, which has to end well."""
+    """Runs a command of this machine, which must succeed."""
     return subprocess.run(words, check=True, capture_output=True, text=True).stdout
 
 
@@ -114,8 +114,8 @@ class Machines:
     """Some machines on one network."""
 
     def __init__(self, server: Sequence[str], top: Path, names: Sequence[str] = NAMES) -> None:
-        """`server` are the words of a server, which /opt/xq_server/serve of each machine runs;
-        the rest there is of the checkout `top`."""
+        """`server` are the words of a server, which /opt/xq_server/serve of each machine runs; the
+        other files there are those of the checkout `top`."""
         self.names = names
         self.room = Path(tempfile.mkdtemp(prefix="xqs-machines-"))
         self._net = f"xqs{os.getpid()}"
@@ -178,7 +178,7 @@ class Machines:
 
     @staticmethod
     def _fill_opt(folder: Path, server: Sequence[str], top: Path) -> None:
-        """What a release has, with another server below ./serve."""
+        """The files of a release, with another server below ./serve."""
         folder.mkdir(parents=True)
         shutil.copy(top / "xqs", folder)
         for part in ("clients", "docs"):
@@ -190,13 +190,13 @@ class Machines:
         serve.chmod(0o755)
 
     def words(self, name: str, *words: str) -> list[str]:
-        """The words that run a command at a machine."""
+        """The words that run a command on a machine."""
         path = f"{self._shims}:/usr/local/bin:/usr/sbin:/usr/bin:/sbin:/bin"
         return ["nsenter", "--target", str(self._ids[name]), "--all", "--wd=/root", "env", "-i",
                 f"PATH={path}", "HOME=/root", "LANG=C.UTF-8", *words]
 
     def run(self, name: str, script: str, seconds: float = PATIENCE) -> str:
-        """What a script prints at a machine; AssertionError where it fails."""
+        """The output of a script on a machine. Raises AssertionError if it fails."""
         done = subprocess.run(self.words(name, "bash", "-euc", script), stdin=subprocess.DEVNULL,
                               stdout=subprocess.PIPE, stderr=subprocess.STDOUT, text=True,
                               timeout=seconds, check=False)
@@ -205,21 +205,21 @@ class Machines:
         return done.stdout
 
     def start(self, name: str, script: str, output: Path) -> "subprocess.Popen[bytes]":
-        """Starts a script at a machine; what it says goes to a file."""
+        """Starts a script on a machine; its output goes to a file."""
         with output.open("ab") as said:
             return subprocess.Popen(self.words(name, "bash", "-euc", script), stdout=said,
                                     stderr=said, stdin=subprocess.DEVNULL)
 
     def part(self, name: str) -> None:
-        """Parts a machine from the others."""
+        """Cuts a machine off from the others."""
         command("ip", "-n", self._net, "link", "set", name, "down")
 
     def join(self, name: str) -> None:
-        """Joins a machine to the others again."""
+        """Connects a machine to the others again."""
         command("ip", "-n", self._net, "link", "set", name, "up")
 
     def process_ids(self, name: str, words: str) -> list[int]:
-        """The ids, here, of the machine's processes whose command has these words."""
+        """The ids, on this machine, of the machine's processes whose command has these words."""
         found = []
         space = os.readlink(f"/proc/{self._ids[name]}/ns/pid")
         for entry in Path("/proc").iterdir():
@@ -232,7 +232,7 @@ class Machines:
         return found
 
     def close(self) -> None:
-        """Ends all machines with all that runs there, and removes what they wrote."""
+        """Ends all machines with all that runs there, and removes their files."""
         for holder in self._holders.values():
             holder.kill()
             holder.wait()

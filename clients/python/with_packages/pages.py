@@ -1,4 +1,4 @@
-"""What tests of the page stand on: one server and one browser for the tests of a class."""
+"""Helpers for tests of the page: one server and one browser for the tests of a class."""
 
 import json
 import os
@@ -39,7 +39,7 @@ class PageTest(unittest.TestCase):
         cls.browser.call("Emulation.setFocusEmulationEnabled", enabled=True)
 
     def open(self, query: str = "") -> None:
-        """Opens the page anew, with no query of before, and runs a query there."""
+        """Opens the page anew, without an earlier query, and runs a query there."""
         self.browser.go(self.web.url)
         self.browser.evaluate("sessionStorage.clear()")
         self.browser.go(self.web.url)
@@ -75,11 +75,11 @@ class PageTest(unittest.TestCase):
             " || !document.getElementById('refusal').hidden)")
 
     def click(self, element: str) -> None:
-        """Clicks the element of that id."""
+        """Clicks the element with that id."""
         self.browser.evaluate(f"document.getElementById('{element}').click()")
 
     def text(self, element: str) -> str:
-        """The text of an element, as it is seen."""
+        """The text of an element, as it is displayed."""
         text: str = self.browser.evaluate(f"document.getElementById('{element}').innerText")
         return text
 
@@ -90,14 +90,14 @@ class PageTest(unittest.TestCase):
         return found
 
     def shown(self, form: str) -> str:
-        """The whole text of a form of the result, as it stands in the page."""
+        """The whole text of a form of the result, as the page shows it."""
         self.click(f"tab-{form}")
         self.browser.evaluate("document.querySelector('#panel button')?.click()")
         text: str = self.browser.evaluate("document.querySelector('#panel pre').textContent")
         return text
 
     def copied(self, form: str) -> str:
-        """What the button Copy gives of a form of the result."""
+        """What the button Copy gives for a form of the result."""
         self.click(f"tab-{form}")
         self.browser.evaluate("document.getElementById('copy').textContent = 'Copy'")
         self.click("copy")
@@ -106,18 +106,18 @@ class PageTest(unittest.TestCase):
         return text
 
     def rows(self) -> list[str]:
-        """The rows of the result's tree that are seen."""
+        """The visible rows of the result's tree."""
         rows: list[str] = self.browser.evaluate(
             "[...document.querySelectorAll('#panel .tree .row')].filter(it => it.offsetParent)"
             ".map(it => it.querySelector('.line, .more').textContent)")
         return rows
 
     def link(self, query: str) -> str:
-        """The part of a link that has a query."""
+        """The part of a link with the query."""
         return f"#{urllib.parse.quote(query)}"
 
     def picture(self, name: str) -> None:
-        """Keeps a picture, where pictures are wanted."""
+        """Saves a picture, if pictures are wanted."""
         folder = os.environ.get("XQS_PICTURES")
         if folder:
             self.browser.picture(Path(folder) / f"{name}.png")

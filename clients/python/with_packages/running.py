@@ -1,4 +1,4 @@
-"""`xqs web` for tests: one that runs, and requests to it."""
+"""A running `xqs web` for tests, and requests to it."""
 
 import base64
 import http.client
@@ -20,7 +20,7 @@ TOKEN = "a-token-of-the-tests-alone"
 
 
 class Answer(NamedTuple):
-    """What came back."""
+    """An answer."""
 
     status: int
     body: str
@@ -28,10 +28,10 @@ class Answer(NamedTuple):
 
 
 class RunningWeb:
-    """A web server that runs, by default over a server on a file of its own.
+    """A running web server, by default over a server on a file of its own.
 
-    `words` are those of the command line; with `place` it connects there and starts no server, else
-    it has so many `servers`.
+    `words` are those of the command line. With `place` it connects there and starts no server, else
+    it has `servers` servers.
     """
 
     def __init__(self, *words: str, place: str = "", has_token: bool = True,
@@ -59,11 +59,11 @@ class RunningWeb:
         self.host = self.url.removeprefix("http://").rstrip("/")
 
     def said(self) -> str:
-        """What it has said so far."""
+        """Its messages so far."""
         return self.errors.read_text()
 
     def wait_for(self, words: str) -> str:
-        """Waits until the words are said; gives the rest of their line."""
+        """Waits until the words appear. Returns the rest of their line."""
         end = time.monotonic() + PATIENCE
         while words not in self.said():
             if time.monotonic() > end or self.process.poll() is not None:
@@ -73,7 +73,7 @@ class RunningWeb:
 
     def ask(self, method: str, path: str, body: str | bytes | Iterable[bytes] | None = None,
             **headers: str) -> Answer:
-        """Sends a request, in chunks where the body comes in pieces; `_` in the name of a header
+        """Sends a request, in chunks if the body comes in pieces; `_` in the name of a header
         stands for a hyphen."""
         connection = http.client.HTTPConnection(self.host, timeout=4 * PATIENCE)
         named = {name.replace("_", "-"): value for name, value in headers.items()}
@@ -97,26 +97,26 @@ class RunningWeb:
 
     @property
     def account(self) -> str:
-        """The header by which the token is sent."""
+        """The header with the token."""
         return f"Bearer {TOKEN}"
 
     def basic(self, user: str, password: str = TOKEN) -> str:
-        """The header by which a user and a password are sent."""
+        """The header with a user and a password."""
         return f"Basic {base64.b64encode(f'{user}:{password}'.encode()).decode()}"
 
     def archive(self, path: str) -> dict[str, str]:
-        """The files of an archive that is asked for, by their names."""
+        """The files of an archive, by their names."""
         with urllib.request.urlopen(f"{self.url}{path[1:]}", timeout=PATIENCE) as response:
             archive = zipfile.ZipFile(io.BytesIO(response.read()))
         return {name: archive.read(name).decode() for name in archive.namelist()
                 if not name.endswith("/")}
 
     def server_id(self) -> int:
-        """The process id of the server, which a keeper has started below."""
+        """The process id of the server, below its keeper."""
         return _child_of(_child_of(self.process.pid))
 
     def terminate(self) -> int:
-        """Ends it by SIGTERM; gives its exit status."""
+        """Ends it by SIGTERM. Returns its exit status."""
         self.process.terminate()
         return self.process.wait(PATIENCE)
 

@@ -1,6 +1,6 @@
 """`xqs node` over three brokers of RabbitMQ: a trial with faults, and each fault by itself.
 
-`XQS_TRIAL_SECONDS` says how long the trial lasts; it is to be 600 before a release.
+`XQS_TRIAL_SECONDS` is the length of the trial; before a release it should be 600.
 """
 
 import asyncio
@@ -43,20 +43,20 @@ from xqs.errors import Closed, Wanting
 SECONDS = float(os.environ.get("XQS_TRIAL_SECONDS", "60"))
 SEED = int(os.environ.get("XQS_SEED", "59"))
 STOPPED = 8.0
-"""Seconds for which a broker is stopped."""
+"""How many seconds a broker is stopped."""
 FILE_STEPS = ("file ended", "file noted")
 SNAPSHOT_STEPS = ("snapshot begun", "snapshot written", "snapshot named")
 MESSAGE_STEPS = ("received", "decoded", "sent", "replied", "noted", "answered", "taken",
                  "acknowledged", "published", "confirmed")
 
 Fault: TypeAlias = tuple[Callable[[int], Awaitable[None]], int]
-"""What is done to a broker or a node, and to which."""
+"""A fault of a broker or a node, and the number of that one."""
 
 if why := missing():
     raise unittest.SkipTest(why)
 
 brokers = cast(Brokers, None)
-"""Those of all tests here, once they run."""
+"""The brokers of all tests here, once they run."""
 
 
 def setUpModule() -> None:
@@ -91,7 +91,7 @@ class ClusterTest(unittest.IsolatedAsyncioTestCase):
         return node
 
     def ended(self, node: RunningNode) -> None:
-        """Ends a node, and looks at what it said in all its lives."""
+        """Ends a node, and checks the messages of all its runs."""
         if node.lives:
             node.end()
         result = self._outcome.result  # type: ignore[attr-defined]
@@ -104,7 +104,8 @@ class ClusterTest(unittest.IsolatedAsyncioTestCase):
             self.assertNotIn("exception", text, text)
 
     async def check(self, nodes: list[RunningNode], writers: list[Writer]) -> str:
-        """Judges all that was seen by the documents of all nodes; what is to be printed."""
+        """Checks all that was seen against the documents of all nodes. Returns the text to
+        print."""
         self.assertEqual([it.faults for it in writers], [[] for _ in writers])
         await all_taken(nodes)
         maps = [await node.documents() for node in nodes]
@@ -123,7 +124,7 @@ class ClusterTest(unittest.IsolatedAsyncioTestCase):
 
 
 class Trial(ClusterTest):
-    """Writers and readers at three nodes, and one fault after the other."""
+    """Writers and readers at three nodes, and one fault after another."""
 
     async def test_a_trial_with_faults(self) -> None:
         self.chance = random.Random(SEED)
@@ -146,8 +147,8 @@ class Trial(ClusterTest):
               f"{sum(it.count for it in watchers):,} reads in turn; {done}")
 
     async def trouble(self, until: float) -> str:
-        """One fault after the other: each broker killed and stopped in turn, nodes and their
-        servers between; then what chance says. How often each."""
+        """One fault after another: each broker killed and stopped in turn, with nodes and their
+        servers between; then random ones. Returns the number of each."""
         plan: list[Fault] = [
             (self.kill_broker, 0), (self.kill_node, 0), (self.stop_broker, 1),
             (self.kill_server, 1), (self.kill_broker, 2), (self.end_node, 1),
@@ -165,14 +166,14 @@ class Trial(ClusterTest):
         return ", ".join(f"{name}: {count}" for name, count in sorted(counts.items()))
 
     def endless(self, plan: list[Fault]) -> Iterator[Fault]:
-        """The plan, and then what chance says."""
+        """The plan, and then random faults."""
         yield from plan
         while True:
             kind, _ = self.chance.choice(plan)
             yield kind, self.chance.randrange(3)
 
     async def all_brokers(self) -> None:
-        """Waits until all brokers take connections: two of three are to be there at any time."""
+        """Waits until all brokers take connections: two of three must run at any time."""
         for name in brokers.names:
             await asyncio.to_thread(brokers.wait_for, name)
 
@@ -213,12 +214,13 @@ class Steps(ClusterTest):
     """A node that is killed between any two steps of its work."""
 
     async def each(self, steps: tuple[str, ...], *options: str) -> None:
-        """Kills a node at each step, begins it again, and judges what it and another hold."""
+        """Kills a node at each step, begins it again, and checks the documents of it and another
+        node."""
         nodes = [self.begun("n1"), self.made("n2", *options)]
         writers = [Writer(node, number, self.history) for node in nodes for number in range(2)]
         for number, step in enumerate(steps):
             with self.subTest(step=step):
-                # (as it begins it takes some messages of its own)
+                # (it takes some messages of its own as it begins)
                 count = (3 if step in SNAPSHOT_STEPS else 12) + number % 4
                 nodes[1].begin(f"{step}:{count}")
                 until = time.monotonic() + 60
@@ -237,7 +239,7 @@ class Steps(ClusterTest):
         self.assertEqual(set(NAMES), {*MESSAGE_STEPS, *SNAPSHOT_STEPS, *FILE_STEPS})
 
     async def pass_step(self, node: RunningNode, step: str) -> None:
-        """Has the node come to the step at which it ends."""
+        """Makes the node come to the step at which it ends."""
         servers = node.server_ids()
         await asyncio.sleep(0.7)
         for _ in range(9 if step in SNAPSHOT_STEPS else 0):
@@ -256,7 +258,7 @@ class Steps(ClusterTest):
     async def test_on_a_file(self) -> None:
         options = ("--file", str(self.folder / "x.db"))
         await self.each(("sent", "replied", "noted", "taken"), *options)
-        # (the count is of the first time, at the end)
+        # (the count is that of the first time, at the end)
 
     async def test_at_the_end_of_a_file(self) -> None:
         node = self.made("n2", "--file", str(self.folder / "x.db"))
@@ -273,7 +275,7 @@ class Logs(ClusterTest):
     """Logs that can't be followed, and those that can't be reached."""
 
     async def test_a_log_that_was_trimmed_is_refused_in_words(self) -> None:
-        # Small segments, of which few are kept.
+        # Small segments, and few of them.
         await self.declare({"x-queue-type": "stream", "x-max-length-bytes": 1_000_000,
                             "x-stream-max-segment-size-bytes": 500_000})
         node = self.begun("n1", "--every", "1000000")
@@ -343,7 +345,7 @@ class Logs(ClusterTest):
             await client.store("c", value(1))
 
     async def declare(self, arguments: dict[str, Any]) -> None:
-        """Makes a queue of the log's name."""
+        """Makes a queue with the log's name."""
         where = log_address(brokers.address(self.log))
         connection = await aio_pika.connect(where.brokers[0])
         async with connection:
@@ -451,7 +453,7 @@ class Servers(ClusterTest):
 
 
 class Clients(ClusterTest):
-    """Clients at once, and those that behave badly."""
+    """Many clients at once, and rude ones."""
 
     async def test_a_hundred_clients_beside_one_that_never_reads(self) -> None:
         node = self.begun("n1", "--servers", "2")

@@ -1,4 +1,4 @@
-"""What a node makes of a broker that does not answer, without one: by channels that are planted."""
+"""How a node handles a broker that does not answer, without a broker: by planted channels."""
 
 import asyncio
 import unittest
@@ -22,7 +22,7 @@ from xqs.cluster.log import Away, CannotFollow
 
 
 class Message:
-    """A message that came; its acknowledgement may never end."""
+    """A message that came; its acknowledgement may never finish."""
 
     def __init__(self, offset: int | None, body: bytes, is_deaf: bool = False) -> None:
         self.headers = {} if offset is None else {OFFSET: offset}
@@ -51,7 +51,7 @@ class Channels(unittest.IsolatedAsyncioTestCase):
         self.inbox: "asyncio.Queue[Any]" = asyncio.Queue()
 
     def planted(self, *messages: Message | None) -> Any:
-        """Has feeds give these messages."""
+        """Makes feeds give these messages."""
         for message in messages:
             self.inbox.put_nowait(message)
 

@@ -1,6 +1,6 @@
-"""Three brokers restarted in turn beside writers: no node is left behind.
+"""Three brokers restarted in turn beside writers: no node falls behind for good.
 
-`XQS_RESTARTS` says how many restarts; it is to be 100 before a release.
+`XQS_RESTARTS` is the number of restarts; before a release it should be 100.
 """
 
 import asyncio
@@ -26,7 +26,7 @@ from tests.histories import History, faults
 
 RESTARTS = int(os.environ.get("XQS_RESTARTS", "4"))
 WITHOUT_PROGRESS = 20.0
-"""Seconds for which a node may be without progress once all brokers are back."""
+"""Seconds that a node may be without progress once all brokers are back."""
 GIVEN_UP = 300.0
 """Seconds after which a node counts as one that never follows again."""
 
@@ -35,7 +35,7 @@ if why := missing():
 
 
 class Restarts(unittest.IsolatedAsyncioTestCase):
-    """Restarts of brokers by SIGTERM, one after the other, while clients write at all nodes."""
+    """Restarts of brokers by SIGTERM, one after another, while clients write at all nodes."""
 
     async def asyncSetUp(self) -> None:
         asyncio.get_running_loop().set_debug(False)
@@ -81,7 +81,7 @@ class Restarts(unittest.IsolatedAsyncioTestCase):
         self.assertLessEqual(max(worst), WITHOUT_PROGRESS)
 
     async def restart(self, name: str) -> None:
-        """Ends a broker in order, and starts it again with what it kept."""
+        """Ends a broker in order, and starts it again with the data that it kept."""
         self.brokers.signal(name, signal.SIGTERM)
         await asyncio.to_thread(self.brokers.wait_for_end, name)
         self.brokers.start(name)
@@ -97,7 +97,7 @@ class Restarts(unittest.IsolatedAsyncioTestCase):
 
     @staticmethod
     def tell(nodes: list[RunningNode]) -> None:
-        """Prints what nodes said last."""
+        """Prints the last messages of the nodes."""
         for node in nodes:
             print(f"--- {node.name}\n" + "\n".join(node.said().splitlines()[-25:]), flush=True)
 

@@ -1,7 +1,7 @@
-"""Three brokers and three nodes on three machines, which are killed, stopped, parted and filled.
+"""Three brokers and three nodes on three machines, which are killed, stopped, cut off and filled.
 
-`XQS_TORTURE_SECONDS` says how long it lasts; it is to be 600 before a release. With
-`XQS_TORTURE_FAULTS`, as `part stop_broker`, there are these alone. It wants root.
+`XQS_TORTURE_SECONDS` is the length; before a release it should be 600. `XQS_TORTURE_FAULTS`, as
+`part stop_broker`, selects faults. This needs root.
 """
 
 import asyncio
@@ -41,10 +41,10 @@ SECONDS = float(os.environ.get("XQS_TORTURE_SECONDS", "120"))
 SEED = int(os.environ.get("XQS_SEED", "85"))
 FAULTS = os.environ.get("XQS_TORTURE_FAULTS", "").split()
 WITHOUT_PROGRESS = 20.0
-"""Seconds for which a node may be without progress once its brokers are back."""
+"""Seconds that a node may be without progress once its brokers are back."""
 GIVEN_UP = 120.0
 DISK, LEFT = 400, 30
-"""Megabytes of a broker's disk, and what is left of it where it is full."""
+"""Megabytes of a broker's disk, and how many are left when it is full."""
 ENDLESS = ("document {text {string(every $x in 1 to 1000000, $y in 1 to 1000000 "
            "satisfies $x > 0)}}")
 GREEDY = ("document {text {string(count(for $x in 1 to 1000000, $y in 1 to 1000 "
@@ -56,7 +56,7 @@ if why := missing_brokers() or missing_machines():
 
 
 class MachineNode(RunningNode):
-    """A node on a machine of its own; its socket and its snapshots are seen from here too."""
+    """A node on a machine of its own; its socket and its snapshots are visible here too."""
 
     def __init__(self, name: str, machines: Machines, folder: Path, *options: str) -> None:
         self.name = name
@@ -89,14 +89,14 @@ class MachineNode(RunningNode):
         self.process.wait()
 
     def ask_to_end(self) -> float:
-        """Ends it by SIGTERM; the seconds that it took."""
+        """Ends it by SIGTERM. Returns the seconds that this took."""
         begin = time.monotonic()
         self._signal(signal.SIGTERM)
         self.process.wait(60)
         return time.monotonic() - begin
 
     def server_ids(self) -> list[int]:
-        """The ids of its servers, here."""
+        """The ids of its servers, on this machine."""
         return self._machines.process_ids(self.name, server_command()[0] + " ")
 
     def end(self) -> None:
@@ -106,7 +106,7 @@ class MachineNode(RunningNode):
 
 
 class Torture(unittest.IsolatedAsyncioTestCase):
-    """One fault after the other, and after each one that all nodes follow."""
+    """One fault after another, and after each one a check that all nodes follow."""
 
     async def asyncSetUp(self) -> None:
         asyncio.get_running_loop().set_debug(False)
@@ -122,7 +122,7 @@ class Torture(unittest.IsolatedAsyncioTestCase):
         self.worst = 0.0
 
     def set_up_brokers(self) -> None:
-        """Does what the page says, with small disks, up to where nodes are run."""
+        """Follows the page's instructions, with small disks, up to the start of nodes."""
         for name in self.machines.names:
             self.machines.run(name, f"mount -t tmpfs -o size={DISK}M tmpfs /var/lib/rabbitmq; "
                                     "chown rabbitmq: /var/lib/rabbitmq")
@@ -170,7 +170,7 @@ class Torture(unittest.IsolatedAsyncioTestCase):
         self.assertEqual(self.findings, [])
 
     def plan(self) -> Iterator[tuple[Callable[[str], Awaitable[None]], str]]:
-        """Each fault of each machine in turn, and then what chance says."""
+        """Each fault of each machine in turn, and then random ones."""
         faults: list[Callable[[str], Awaitable[None]]] = [
             self.restart_broker, self.store_endlessly, self.part, self.kill_node, self.kill_broker,
             self.end_node, self.fill_disk, self.kill_server, self.stop_broker, self.stop_server,
@@ -199,7 +199,7 @@ class Torture(unittest.IsolatedAsyncioTestCase):
                 print(f"--- {node.name}", *node.said().splitlines()[-20:], sep="\n", flush=True)
 
     async def at(self, name: str, script: str) -> None:
-        """Runs a script at a machine."""
+        """Runs a script on a machine."""
         await asyncio.to_thread(self.machines.run, name, script)
 
     def signal_broker(self, name: str, number: signal.Signals) -> None:
@@ -278,7 +278,7 @@ class Torture(unittest.IsolatedAsyncioTestCase):
         await self.refused(name, GREEDY, "memory")
 
     async def refused(self, name: str, query: str, code: str) -> None:
-        """That a store is refused, and nothing else becomes of it."""
+        """Checks that a store is refused, and that nothing else happens."""
         try:
             async with asyncio.timeout(90):
                 async with await aio.connect(self.of(name).place) as client:
@@ -291,7 +291,8 @@ class Torture(unittest.IsolatedAsyncioTestCase):
             self.findings.append(f"{name} did not refuse {query}: {error!r}")
 
     async def judged(self) -> str:
-        """Judges all that was seen by the documents of all nodes; what is to be printed."""
+        """Checks all that was seen against the documents of all nodes. Returns the text to
+        print."""
         await all_taken(self.nodes)
         maps = [await node.documents() for node in self.nodes]
         self.findings += faults(self.history, maps, SHARED.encode())

@@ -2,7 +2,7 @@
 
     cd clients/python && python3 -m unittest discover -s with_packages
 
-`XQS_PICTURES` names a folder for pictures of the page, where they are wanted.
+`XQS_PICTURES` names a folder for pictures of the page, if they are wanted.
 """
 
 import http.server
@@ -39,7 +39,7 @@ class LibraryTest(PageTest):
 
 
 class Results(LibraryTest):
-    """What a query's answer looks like."""
+    """The appearance of a query's answer."""
 
     def test_a_query_gives_a_tree(self) -> None:
         self.open('doc("books")')
@@ -135,7 +135,7 @@ class Links(LibraryTest):
     """A query in a link is shown, and never run by itself."""
 
     def check_not_run(self, query: str) -> None:
-        """Checks that a query stands in the editor and has no answer."""
+        """Checks that the editor has a query, which has no answer."""
         self.browser.wait_for("document.getElementById('count').textContent")
         self.assertEqual(self.written(), query)
         self.assertIn("was not run", self.text("status"))
@@ -181,7 +181,7 @@ class Links(LibraryTest):
 
 
 class Keyboard(LibraryTest):
-    """All of it without a mouse."""
+    """Everything without a mouse."""
 
     def test_ctrl_enter_runs_what_was_typed(self) -> None:
         self.open()
@@ -251,7 +251,7 @@ class Keyboard(LibraryTest):
 
 
 class Policy(LibraryTest):
-    """What a browser is told to keep from."""
+    """What a browser is told not to do."""
 
     def test_a_stored_script_does_not_run_when_its_document_is_opened(self) -> None:
         script = ('<h:html xmlns:h="http://www.w3.org/1999/xhtml"><h:script>'
@@ -303,7 +303,7 @@ class Elsewhere(http.server.BaseHTTPRequestHandler):
         self.wfile.write(b"<!doctype html><title>elsewhere</title>")
 
     def log_message(self, *_: object) -> None:
-        """Says nothing."""
+        """Prints nothing."""
 
 
 del LibraryTest, PageTest

@@ -1,6 +1,6 @@
-"""What the page has beside answers: an editor, tabs, saved queries, folders, tables, charts, files.
+"""The page's tools besides answers: an editor, tabs, saved queries, folders, tables, charts, files.
 
-`XQS_PICTURES` names a folder for pictures of the page, where they are wanted.
+`XQS_PICTURES` names a folder for pictures of the page, if they are wanted.
 """
 
 import json
@@ -109,7 +109,7 @@ class Queries(ToolsTest):
 
 
 class Plain(ToolsTest):
-    """The page where there is no editor for it."""
+    """The page without its editor."""
 
     def test_a_plain_field(self) -> None:
         self.browser.call("Network.enable")
@@ -131,10 +131,10 @@ class Plain(ToolsTest):
 
 
 class Documents(ToolsTest):
-    """Folders, filters, and all of the addresses reachable."""
+    """Folders, filters, and a way to each address."""
 
     def labels(self) -> list[str]:
-        """The rows of the documents that are seen."""
+        """The visible rows of the documents."""
         rows: list[str] = self.browser.evaluate(
             "[...document.querySelectorAll('#documents .row')].filter(it => it.offsetParent)"
             ".map(it => it.querySelector('.line').textContent)")
@@ -243,7 +243,7 @@ class Tables(ToolsTest):
 
 
 class Files(ToolsTest):
-    """Documents that are uploaded, and downloaded."""
+    """Uploads and downloads of documents."""
 
     def choose(self, field: str, paths: list[str]) -> None:
         """Chooses files in a field, and waits until they are stored or refused."""
@@ -313,7 +313,7 @@ class Looks(ToolsTest):
     """Pictures: dark, light, narrow, a refusal."""
 
     def size(self, width: int, height: int) -> None:
-        """Gives the window a size."""
+        """Sets the size of the window."""
         self.browser.call("Emulation.setDeviceMetricsOverride", width=width, height=height,
                           deviceScaleFactor=1, mobile=False)
 

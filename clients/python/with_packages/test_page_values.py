@@ -1,8 +1,8 @@
 """The page shows and copies what the server has given, character for character.
 
-A hundred awkward values are asked for in the page, in headless Chromium. What stands there, and
-what the button Copy gives, is compared with the server's reply, which a connection of its own has
-asked for, and with what the package reads and writes of that.
+A hundred awkward values are queried in the page, in headless Chromium. What the page shows, and
+what the button Copy gives, is compared with the server's reply over another connection, and with
+what the package reads and writes of that.
 """
 
 import unittest
@@ -49,13 +49,13 @@ LONG = 'string-join(for $n in 1 to 120000 return "{<é&amp;}""012345678901234567
 
 
 def literal(text: str) -> str:
-    """A text as a literal of a query."""
+    """A text as a string literal of a query."""
     escaped = text.replace("&", "&amp;").replace("\r", "&#xD;").replace('"', '""')
     return f'"{escaped}"'
 
 
 def parts_of(item: Item) -> list[str]:
-    """The values that the tree shows of an item, in their order, where each is short."""
+    """The values of an item in the tree, in order, if each is short."""
     if not isinstance(item, Node):
         return [atom_text(item)]
     if item.kind not in (NodeKind.DOCUMENT, NodeKind.ELEMENT):
@@ -65,12 +65,12 @@ def parts_of(item: Item) -> list[str]:
 
 
 def is_shown(part: str) -> bool:
-    """Whether the tree shows a value as it is, and not white space by signs."""
+    """Whether the tree shows a value as it is, without signs for white space."""
     return bool(part.strip()) or not part
 
 
 class Values(PageTest):
-    """What is shown and copied."""
+    """What the page shows and copies."""
 
     client: Client
 
@@ -83,7 +83,7 @@ class Values(PageTest):
         cls.browser.go(cls.web.url)
 
     def check(self, query: str) -> None:
-        """Checks all forms in which the page has the answer to a query."""
+        """Checks all forms of a query's answer in the page."""
         reply, items = self.client.query_text(query), self.client.query(query)
         self.run_query(query)
         self.assertEqual(self.all("#refusal", "it.hidden"), [True])
@@ -99,7 +99,7 @@ class Values(PageTest):
         self.browser.evaluate("document.getElementById('indented').checked = true")
 
     def check_tree(self, query: str) -> None:
-        """Checks the values that the tree of an answer shows."""
+        """Checks the values in the tree of an answer."""
         self.click("tab-tree")
         expected = [part for item in self.client.query(query) for part in parts_of(item)]
         seen = self.all("#panel .line")

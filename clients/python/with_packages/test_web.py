@@ -1,4 +1,4 @@
-"""`xqs web` over the server of XQS_SERVER: paths, forms, statuses, who may ask, limits, ends."""
+"""`xqs web` over the server of XQS_SERVER: paths, forms, statuses, access, limits, ends."""
 
 import os
 import signal
@@ -249,7 +249,7 @@ class Queries(WebTest):
 
 
 class Guard(WebTest):
-    """Who may ask."""
+    """Access."""
 
     def test_a_host_that_is_not_this_one_gets_nothing(self) -> None:
         port = self.web.host.rpartition(":")[2]
@@ -401,7 +401,7 @@ class Words(FolderTest):
     """Words of the command line that are refused, and names of the server."""
 
     def ended(self, *words: str) -> subprocess.CompletedProcess[str]:
-        """Runs the command, which is to end by itself."""
+        """Runs the command, which should end by itself."""
         command = [sys.executable, "-m", "xqs", "web", *words, "--", *server_command()]
         return subprocess.run(command, cwd=SOURCES, capture_output=True, text=True,
                               stdin=subprocess.DEVNULL, timeout=PATIENCE, check=False)
@@ -437,7 +437,7 @@ class Words(FolderTest):
 
 
 class Ends(WebTest):
-    """Servers that end, and the end of it all."""
+    """Servers that end, and the end of everything."""
 
     def test_a_killed_server_is_replaced(self) -> None:
         self.web.put("a", BOOK)

@@ -14,7 +14,7 @@ XML, JSON, TEXT = "application/xml", "application/json", "text/plain"
 
 
 class Tags(WebTest):
-    """Entity tags, and answers that the client has."""
+    """Entity tags, and answers that the client has already."""
 
     def test_each_answer_has_a_tag(self) -> None:
         self.web.put("a", BOOK)
@@ -58,7 +58,7 @@ class Updates(WebTest):
     """No update is lost."""
 
     def tag(self, accept: str = "*/*") -> str:
-        """The tag of the document as it is."""
+        """The current tag of the document."""
         return self.web.ask("GET", "/rest/a", Accept=accept).headers["ETag"]
 
     def test_a_change_of_the_state_that_was_read(self) -> None:

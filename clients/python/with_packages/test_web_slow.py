@@ -1,4 +1,4 @@
-"""Clients of `xqs web` that read slowly, send slowly or send half of it hold up nobody."""
+"""Clients of `xqs web` that read slowly, send slowly or send half a request hold up nobody."""
 
 import socket
 import statistics
@@ -15,7 +15,7 @@ LONG = 3_000_000
 
 
 class SlowTest(WebTest):
-    """Clients by sockets of their own, and a document of so many bytes."""
+    """Clients by sockets of their own, and a document of this number of bytes."""
 
     size = LONG
 
@@ -39,7 +39,7 @@ class SlowTest(WebTest):
                            ).encode()
 
     def median(self, count: int = 30) -> float:
-        """The median of the seconds that a short request takes."""
+        """The median time of a short request, in seconds."""
         times = []
         for number in range(count):
             begin = time.monotonic()
@@ -53,12 +53,12 @@ class SlowTest(WebTest):
 
 
 class Slow(SlowTest):
-    """Slow ones, beside a fast one."""
+    """Slow clients beside a fast one."""
 
     words = ("--wait", "4", "--head", "2")
 
     def slowly(self, action: Callable[[], None]) -> Callable[[], None]:
-        """Has an action be repeated by a thread, up to when what is given is called."""
+        """Repeats an action in a thread, until the returned function is called."""
         ended = threading.Event()
 
         def work() -> None:
@@ -154,10 +154,10 @@ class Slow(SlowTest):
 
 
 class Many(SlowTest):
-    """More connections than there may be."""
+    """More connections than allowed."""
 
     words = ("--connections", "20", "--head", "60")
-    # (more than the system holds for a socket, so that an answer is under way until it is read)
+    # (more than the system holds for a socket, so that the answer stays under way until it is read)
     size = 12_000_000
 
     def test_the_one_that_has_waited_longest_makes_room(self) -> None:

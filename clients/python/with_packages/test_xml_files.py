@@ -1,8 +1,8 @@
-"""Every XML file of this machine, in and out through a server, beside libxml2.
+"""Every XML file of this machine, in and out through a server, compared with libxml2.
 
-`xmllint --c14n` gives the canonical form of the file as it was and as it came back; both have to be
-the same, byte for byte. What one of the two refuses has to be refused for a reason that is named
-here. XQS_XML_FILES is a folder to look below instead of all, XQS_XML_MOST how many files at most.
+`xmllint --c14n` gives the canonical form of the file before and after; both must be the same, byte
+for byte. What one of the two refuses must be refused for a reason that is listed here.
+XQS_XML_FILES is a folder to search instead of all, XQS_XML_MOST the most files to try.
 """
 
 import os
@@ -25,12 +25,12 @@ from xqs.xml_out import write_document
 
 TOP = Path(os.environ.get("XQS_XML_FILES", "/"))
 MOST = int(os.environ.get("XQS_XML_MOST", "4000"))
-"""So many files are tried; where there are more, some of them by chance."""
+"""How many files are tried; if there are more, some of them at random."""
 ENDINGS = frozenset(
     ".dae .docbook .gpx .kml .mml .omf .page .policy .rdf .rng .svg .ui .xhtml .xml .xsd .xsl .xslt"
     .split())
 LEFT_OUT = ("/proc", "/sys", "/dev", "/run", "/tmp", "/work", "/root")
-"""Folders whose files are no files of Debian's packages."""
+"""Folders whose files are not from Debian packages."""
 READ_BY_THEM = re.compile(rb"""(<!DOCTYPE[^>\[]*["'])(?:/|file:)[^"']*""")
 """The place of a document type that libxml2 would read, and that is not read here."""
 CHOICES = XmlChoices(names=Names.FLAT, entities=True)
@@ -39,20 +39,20 @@ OURS = {
     "entities outside": ("which is not read", "undefined entity"),
     "limits": ("which is the server's limit",),
 }
-"""Why a file that libxml2 takes may be refused: reasons, and how they are told."""
+"""Why a file that libxml2 accepts may be refused: reasons, and the words in the messages."""
 THEIRS = {
     "namespaces, which are not judged here": ("namespace", "Relative namespace"),
     "a declaration that a byte order mark belies": ("Document labelled",),
     "bytes that browsers read": ("input conversion failed",),
 }
-"""Why a file that is taken here may be refused by libxml2."""
+"""Why libxml2 may refuse a file that is accepted here."""
 SHIFT_JIS = re.compile(rb"""encoding=["'](?:shift_jis|x-sjis)["']""", re.IGNORECASE)
 AS_BROWSERS = str.maketrans({"\N{YEN SIGN}": "\\", "\N{OVERLINE}": "~"})
-"""How two bytes of Shift_JIS are read here, which libxml2 reads otherwise."""
+"""How two bytes of Shift_JIS are read here, which libxml2 reads differently."""
 
 
 def files() -> list[Path]:
-    """The files with such endings, links aside."""
+    """The files with these endings, except links."""
     found = sorted(_below(TOP))
     return found if len(found) <= MOST else sorted(random.Random(11).sample(found, MOST))
 
@@ -96,17 +96,17 @@ AWKWARD = (
     b"<!DOCTYPE a SYSTEM 'nothing.dtd'><a b='&u;'/>", b"<a b='1' b='2'/>", b"<a>&#0;</a>",
     b"<a><b></a></b>", b"<a/><b/>", b"x<a/>", b"<a>--><!-- -- --></a>", b"<a b=1/>", b"",
 )
-"""Texts that readers of XML take amiss; the last ones are refused."""
+"""Texts that readers of XML stumble over; the last ones are refused."""
 REFUSED = 14
 
 
 def reason(text: str, reasons: dict[str, tuple[str, ...]]) -> str:
-    """The reason that a message tells; empty where it tells none of them."""
+    """The reason in a message; empty if there is none of them."""
     return next((name for name, marks in reasons.items() if any(it in text for it in marks)), "")
 
 
 def likeness(data: bytes, back: bytes | None, theirs: bytes) -> str:
-    """Why a canonical form is as good as theirs; empty where it is another one."""
+    """Why a canonical form is as good as theirs; empty if it is not."""
     if back == theirs or back is None:
         return "the same" if back is not None else ""
     one, other = back.decode(), theirs.decode()
@@ -139,7 +139,7 @@ class Files(ServerTest):
         self.assertLessEqual({it for it in outcomes[-REFUSED:]}, refused)
 
     def outcome(self, file: str, data: bytes) -> str:
-        """What became of a text; what must not be is a fault of the test."""
+        """The outcome of a text; an impossible one fails the test."""
         here = self.folder / "file.xml"
         here.write_bytes(READ_BY_THEM.sub(rb"\1nothing.dtd", data, 1))
         theirs, said = canonical(here)
@@ -154,12 +154,13 @@ class Files(ServerTest):
         return f"refused: {reason(refusal, OURS) or self.fault(file, refusal)}"
 
     def fault(self, file: str, why: str) -> str:
-        """Notes what must not be."""
+        """Notes an impossible outcome."""
         self.faults.append(f"{file}: {why}")
         return "WRONG"
 
     def round_trip(self, here: Path) -> str | None:
-        """Stores the file and writes it again from the server; why it is refused, or None."""
+        """Stores the file and writes it again from the server. Returns why it is refused, or
+        None."""
         try:
             with open(here, "rb") as data:
                 store_xml(self.server, "x", chunks_of(data), here.name, CHOICES)
@@ -172,7 +173,7 @@ class Files(ServerTest):
 
 
 def canonical(file: Path) -> tuple[bytes | None, str]:
-    """The canonical form that libxml2 gives of a file, or None, and what it says."""
+    """The canonical form that libxml2 gives a file, or None, and its messages."""
     done = subprocess.run(
         ["xmllint", "--c14n", "--nonet", file.name], cwd=file.parent, capture_output=True,
         env={**os.environ, "XML_CATALOG_FILES": "/nonexistent"}, timeout=120)

@@ -1,4 +1,4 @@
-"""What tests of `xqs web` stand on: one server for all tests of a class, and what is sent to it."""
+"""Helpers for tests of `xqs web`: one server for all tests of a class, and requests to it."""
 
 import json
 import socket
@@ -26,12 +26,12 @@ XQUERY = "application/xquery"
 
 
 def asked(query: str, **parameters: str) -> str:
-    """The path that asks a query."""
+    """The path with a query."""
     return "/rest?" + urllib.parse.urlencode({"query": query, **parameters})
 
 
 def read_all(connection: socket.socket) -> bytes:
-    """What comes until the stream ends, in order or not."""
+    """The bytes until the stream ends, in order or not."""
     data = bytearray()
     with suppress(ConnectionResetError):
         while piece := connection.recv(1 << 16):
@@ -55,10 +55,10 @@ class WebTest(FolderTest):
                 self.web.delete(address)
 
     def check(self, answer: Answer, status: int, body: str | None = None) -> None:
-        """Checks a status, and a body where one is given."""
+        """Checks a status, and the body if one is given."""
         self.assertEqual((answer.status, body and answer.body), (status, body), answer)
 
     def check_refused(self, answer: Answer, status: int, code: str) -> None:
-        """Checks the status and the code of a refusal, which stands before its sentence."""
+        """Checks the status and code of a refusal; the code comes before its sentence."""
         self.assertEqual((answer.status, answer.headers.get("Xqs-Code")), (status, code), answer)
         self.assertTrue(answer.body.startswith(f"{code}: "), answer.body)

@@ -32,15 +32,15 @@ from xqs.xml_out import KEEP
 class AsyncClient:
     """A connection to a server. Any number of tasks of one loop may use it at once.
 
-    A task that is cancelled, as by `asyncio.timeout`, is free at once; what becomes of its request
-    is said at `Client`.
+    A task that is cancelled, for example by `asyncio.timeout`, is free at once. `client.Client`
+    says what happens to its request.
     """
 
     def __init__(
         self, stream: AsyncStream, origin: Origin | None = None, seconds: float | None = None
     ) -> None:
-        """`origin` says where another stream comes from, when this one ends; `seconds` is how long
-        the server may be at one request."""
+        """`origin` makes the next stream when this one ends. `seconds` is how long the server may
+        take for one request."""
         self._origin, self._seconds = origin, seconds
         self._link = AsyncLink(stream, origin)
 
@@ -54,7 +54,7 @@ class AsyncClient:
         return self._link.stream.process if self._link.stream else None
 
     async def request(self, request: Request, timeout: float | None = None) -> str:
-        """Sends a request, and gives the text of its reply."""
+        """Sends a request and returns the text of its reply."""
         if not timeout:
             return await self._link.ask(request, self._seconds if timeout is None else None)
         bound = self._seconds if self._seconds is None else max(self._seconds, timeout)
@@ -70,26 +70,25 @@ class AsyncClient:
     async def query_text(
         self, query: str, *, timeout: float | None = None, names: str = KEEP
     ) -> str:
-        """The value of a query, as it is printed. By `names="flat"` a query has names with a
-        prefix, and so has its value, where documents were stored with flat names."""
+        """The value of a query, as the server prints it. With `names="flat"` the query and its
+        value have prefixes, over documents that were stored with flat names."""
         return told(await self.request(query_of(asked(query, names)), timeout), names)
 
     async def query(
         self, query: str, *, timeout: float | None = None, names: str = KEEP
     ) -> Items:
-        """The items of a query's value; `names` as of `query_text`."""
+        """The items of a query's value; `names` as in `query_text`."""
         return values(await self.query_text(query, timeout=timeout, names=names))
 
     async def iterate(
         self, query: str, *, timeout: float | None = None, names: str = KEEP
     ) -> AsyncIterator[Item]:
-        """The items of a query's value one by one, each read as it is asked for; `names` as of
-        `query_text`."""
+        """The items of a query's value one by one; `names` as in `query_text`."""
         for item in items(await self.query_text(query, timeout=timeout, names=names)):
             yield item
 
     async def store(self, address: str, query: str, *, timeout: float | None = None) -> bool:
-        """Stores the document that the query gives; whether it replaced another one."""
+        """Stores the document that the query gives. Returns whether it replaced another one."""
         check_lasting(address)
         return await self.request(store_of(address, query), timeout) == "replaced"
 
@@ -102,12 +101,12 @@ class AsyncClient:
         return addresses_of(await self.request(LIST, timeout))
 
     async def close(self) -> int | None:
-        """Ends the connection once the replies under way have come; the exit status of a command
-        that was started, else None."""
+        """Ends the connection when all replies have come. Returns the exit status of a command that
+        was started, else None."""
         return await self._link.finish()
 
     async def kill(self) -> None:
-        """Ends the connection at once, and a command that was started with it."""
+        """Ends the connection at once, and a command that was started for it."""
         await self._link.kill()
 
     async def __aenter__(self) -> "AsyncClient":

@@ -1,5 +1,5 @@
-"""Requests to a server, and their replies, over one stream after the other, for asyncio: as `link`
-does it for threads, by the same rules."""
+"""Requests to a server and their replies, over one stream after another, for asyncio. `link` does
+the same for threads, by the same rules."""
 
 import asyncio
 from typing import TypeAlias
@@ -16,10 +16,10 @@ Text: TypeAlias = "asyncio.Future[str]"
 
 
 class AsyncLink:
-    """A connection that outlasts its stream, where that can be."""
+    """A connection that survives the end of its stream if another one can be made."""
 
     def __init__(self, stream: AsyncStream, origin: Origin | None) -> None:
-        """Without an origin there is no other stream after this one."""
+        """Without an origin no other stream follows this one."""
         self._origin = origin
         self.watch: Watch[Text] = Watch(origin)
         self._in_flight = self.watch.in_flight
@@ -33,12 +33,12 @@ class AsyncLink:
 
     @property
     def stream(self) -> AsyncStream | None:
-        """The stream of the moment; None where it has ended."""
+        """The current stream; None if it has ended."""
         return self._stream
 
     async def ask(self, request: Request, seconds: float | None) -> str:
-        """Sends a request, and gives the text of its reply; `seconds` is how long the server may be
-        at it. Closed where the stream has ended for good."""
+        """Sends a request and returns the text of its reply. `seconds` is how long the server may
+        take for it. Raises Closed if the stream has ended for good."""
         future: Text = self._loop.create_future()
         async with self._turn:
             stream = await self._ready()
@@ -58,10 +58,11 @@ class AsyncLink:
         try:
             await stream.writer.drain()
         except OSError:
-            stream.kill()  # What becomes of the request is told by whoever reads.
+            stream.kill()  # The task that reads says what happens to the request.
 
     async def _ready(self) -> AsyncStream:
-        """A stream to send by; of a socket another one, where it has ended. The turn is taken."""
+        """The stream to send by. At a socket it connects again if the stream has ended. The caller
+        holds the turn."""
         if self.watch.ended or self.watch.closing:
             raise Closed(self.watch.ended or "the connection was closed")
         if self._stream is None:
@@ -74,27 +75,27 @@ class AsyncLink:
         return self._stream
 
     async def _opened(self) -> AsyncStream:
-        """Another stream; Closed where there can be none."""
+        """Makes another stream. Raises Closed if that is impossible."""
         assert self._origin is not None
         try:
             return await open_async_stream(self._origin.place, self._origin.bounds)
         except OSError as error:
-            raise Closed(f"the stream ended, and there is no other one: {error}") from error
+            raise Closed(f"the stream ended, and a new one can't be made: {error}") from error
 
     def _begin(self, stream: AsyncStream) -> None:
         self._stream: AsyncStream | None = stream
         self._task = asyncio.create_task(self._run(stream), name="xqs replies")
 
     def _put(self, stream: AsyncStream, again: list[Waiting[Text]]) -> None:
-        """Sends these first by a new stream."""
+        """Sends these requests first on a new stream."""
         probed: Text = self._loop.create_future()
-        # (asyncio complains of errors that nobody looks at)
+        # (asyncio complains about errors that nobody looks at)
         probed.add_done_callback(lambda it: it.cancelled() or it.exception())
         for waiting in (*self.watch.probes(probed), *again):
             stream.send(self._in_flight.begin(waiting))
 
     def _look(self) -> None:
-        """Ends a server that is too long at its request; else looks again when one may be."""
+        """Ends a server that takes too long for its request, else looks again when one may."""
         if self._alarm is not None:
             self._alarm.cancel()
             self._alarm = None
@@ -121,14 +122,14 @@ class AsyncLink:
             self._look()
 
     def _end_if_wanted(self, stream: AsyncStream | None) -> None:
-        """Ends a new stream, where that was wanted before it was there."""
+        """Ends a new stream if its end was requested before it was made."""
         if stream is not None and self.watch.ended:
             stream.kill()
         elif stream is not None and self.watch.closing is not None:
             stream.finish_writing()
 
     async def _read(self, stream: AsyncStream) -> str:
-        """Reads replies to the end of the stream; why it ended."""
+        """Reads replies until the stream ends. Returns why it ended."""
         splitter = protocol.Splitter(protocol.MAX_REPLY)
         try:
             while piece := await stream.reader.read(PIECE):
@@ -139,13 +140,13 @@ class AsyncLink:
                     self._look()
         except (protocol.FrameFault, KeyError) as error:
             stream.kill()
-            return f"the stream is no server's ({error})"
+            return f"the other end is not a server ({error})"
         except OSError as error:
             return f"the stream ended ({error})"
         return "the stream ended"
 
     async def _after(self, cause: Cause, why: str) -> tuple[AsyncStream | None, Ended[Text]]:
-        """The stream that follows one that has ended, and what becomes of the requests."""
+        """Makes the stream that follows one that has ended, and settles its requests."""
         waiting = self._in_flight.take_all()
         if self.watch.ended:
             cause, why = Cause.CLOSED, self.watch.ended
@@ -167,7 +168,7 @@ class AsyncLink:
         return stream, ended
 
     async def _again(self) -> AsyncStream:
-        """Another stream; a socket is tried for a while. Closed where there is none."""
+        """Makes another stream; tries a socket for a while. Raises Closed if there is none."""
         for delay in retry_delays():
             await asyncio.sleep(delay)
             try:
@@ -178,9 +179,9 @@ class AsyncLink:
         return await self._opened()
 
     async def _missing(self, stream: AsyncStream) -> set[str]:
-        """The documents that were stored before, and that the server doesn't have any more.
+        """The documents that were stored on this connection and that the server no longer has.
 
-        Closed where it doesn't answer.
+        Raises Closed if the server doesn't answer.
         """
         if not self._in_flight.stored or (self._origin is not None and self._origin.keeps):
             return set()
@@ -203,7 +204,7 @@ class AsyncLink:
         return self._in_flight.take_missing(waiting.future)
 
     async def finish(self) -> int | None:
-        """Ends the connection once the replies under way have come; the status of the server."""
+        """Ends the connection when all replies have come. Returns the server's exit status."""
         self.watch.close()
         if self._stream is not None:
             self._stream.finish_writing()
@@ -213,7 +214,7 @@ class AsyncLink:
         return self._status
 
     async def kill(self) -> None:
-        """Ends the connection at once; what is under way fails."""
+        """Ends the connection at once; requests under way fail."""
         self.watch.ended = self.watch.ended or "the connection was ended"
         if self._stream is not None:
             self._stream.kill()

@@ -1,4 +1,4 @@
-"""Bytes to a server and from it, for asyncio: a connected socket, or the pipes of a program that
+"""Bytes to and from a server, for asyncio: over a connected socket, or the pipes of a program that
 was started."""
 
 import asyncio
@@ -16,34 +16,34 @@ class GroupProcess(asyncio.subprocess.Process):
     """A process that leads a group: a keeper, with the server below it."""
 
     def send_signal(self, signal: int) -> None:
-        """Sends the signal to all of the group."""
+        """Sends the signal to the whole group."""
         with suppress(ProcessLookupError):
             if self.returncode is None:
                 os.killpg(self.pid, signal)
 
     def terminate(self) -> None:
-        """Asks all of the group to end."""
+        """Sends SIGTERM to the whole group."""
         self.send_signal(signal.SIGTERM)
 
     def kill(self) -> None:
-        """Kills all of the group."""
+        """Sends SIGKILL to the whole group."""
         self.send_signal(signal.SIGKILL)
 
 
 class AsyncStream:
-    """A stream of bytes, and the process at its other end, if that was started here."""
+    """A stream of bytes, and the process at its other end if it was started here."""
 
     def __init__(self, reader: asyncio.StreamReader, writer: asyncio.StreamWriter,
                  process: asyncio.subprocess.Process | None = None) -> None:
         self.reader, self.writer, self.process = reader, writer, process
 
     def send(self, data: bytes) -> None:
-        """Sends the bytes, as soon as they go out."""
+        """Sends the bytes; waits until the stream takes them."""
         if not self.writer.is_closing():
             self.writer.write(data)
 
     def finish_writing(self) -> None:
-        """Tells the server that nothing more comes, once all has been sent."""
+        """Closes the sending side once everything has been sent."""
         with suppress(OSError):
             if self.writer.can_write_eof():
                 self.writer.write_eof()
@@ -58,7 +58,8 @@ class AsyncStream:
             self.process.kill()
 
     async def close(self) -> int | None:
-        """Gives the stream back, after its end; the exit status of its process, if it has one."""
+        """Releases the stream after its end. Returns the exit status of its process, if it has
+        one."""
         self.writer.close()
         with suppress(OSError):
             await self.writer.wait_closed()
@@ -72,9 +73,9 @@ class AsyncStream:
 
 
 async def open_async_stream(place: Endpoint, bounds: Bounds) -> AsyncStream:
-    """A stream to a server, which is started where the place is a command.
+    """A stream to a server; starts the server if the place is a command.
 
-    NotConnected (an OSError) where there is none.
+    Raises NotConnected (an OSError) if there is no server.
     """
     try:
         if isinstance(place, Command):
@@ -95,5 +96,5 @@ async def _started(place: Command, bounds: Bounds) -> AsyncStream:
         process_group=0,
     )
     assert process.stdin is not None and process.stdout is not None
-    process.__class__ = GroupProcess  # (asyncio lets nobody say of which class it is made)
+    process.__class__ = GroupProcess  # (asyncio has no way to choose the class)
     return AsyncStream(process.stdout, process.stdin, process)

@@ -1,7 +1,7 @@
-"""Queries as people write them: asked as the server takes them, shown as they were asked.
+"""Queries as people write them: sent in the server's form, shown in the user's.
 
-What `xqs query`, the shell and HTTP share: names with a prefix, folders of documents, the form of
-the value, and the place of a fault in the text as it was written.
+`xqs query`, the shell and HTTP share this: names with a prefix, folders of documents, the form of
+the value, and the place of a fault in the text that the user wrote.
 """
 
 from collections.abc import Callable, Mapping
@@ -19,9 +19,9 @@ from xqs.xml_out import KEEP, is_flat, xml
 
 @dataclass(frozen=True)
 class Question:
-    """A query: its text as it was written, with flat names, and as it is asked.
+    """A query: the text that the user wrote, the text with flat names, and the text to send.
 
-    `is_empty` says that it is asked of a folder without documents.
+    `is_empty` means that it asks a folder without documents.
     """
 
     text: str
@@ -30,32 +30,32 @@ class Question:
     is_empty: bool = False
 
     def bound(self, **strings: str) -> str:
-        """The text that is sent, with a string for each of these variables."""
+        """The text to send, with each of these variables bound to a string."""
         return q(self.asked.text, **strings)
 
     def found(self, code: str) -> places.Place | None:
-        """The place in the text as it was written that explains a refusal."""
+        """The place in the user's text that explains a refusal."""
         place = places.find(self.asked.text, code)
         if place is None:
             return None
         return replace(place, at=self.flat.place(self.asked.place(place.at)))
 
     def place(self, code: str) -> str:
-        """The place that explains a refusal, with its line; empty where there is none."""
+        """The place that explains a refusal, with its line; empty if there is none."""
         place = self.found(code)
         return "" if place is None else places.marked(self.text, place)
 
 
 def question(client: Client, text: str, names: str = KEEP, folder: str | None = None) -> Question:
-    """The query; by `flat` names with a prefix are flat ones, and `folder` is what `collection()`
-    has. PrefixFault and FolderFault, with their place in the text."""
+    """The query. `flat` maps names with a prefix to flat names, and `folder` is the folder of
+    `collection()`. Raises PrefixFault and FolderFault, with their place in the text."""
     return question_over(client.list, text, names, folder)
 
 
 def question_over(
     addresses: Callable[[], list[str]], text: str, names: str = KEEP, folder: str | None = None
 ) -> Question:
-    """As `question`; `addresses` is called at most once, where the query asks for a folder."""
+    """Like `question`; `addresses` is called at most once, when the query asks for a folder."""
     flat = flattened(text) if is_flat(names) else Rewritten(text)
     known: list[str] = []
 
@@ -71,16 +71,18 @@ def question_over(
 
 
 def shown(answer: str, as_xml: bool, names: str = KEEP) -> str:
-    """A printed value as it is shown: nodes as XML, an item a line, or as it is printed."""
+    """A printed value in the form to show: nodes as XML with one item per line, or as the server
+    prints it."""
     if as_xml:
         return "\n".join(xml(it, names) for it in values(answer))
     return told(answer, names)
 
 
 def strings_of(settings: list[str]) -> Mapping[str, str]:
-    """The strings of `NAME=TEXT`; ValueError for anything else."""
+    """The variables and their strings, from words `NAME=TEXT`. Raises ValueError for other
+    words."""
     pairs = [it.partition("=") for it in settings]
     wrong = next((text for text, pair in zip(settings, pairs, strict=True) if not pair[1]), None)
     if wrong is not None:
-        raise ValueError(f"--set wants NAME=TEXT, not {wrong!r}")
+        raise ValueError(f"--set needs NAME=TEXT, not {wrong!r}")
     return {name: value for name, _, value in pairs}

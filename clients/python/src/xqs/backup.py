@@ -1,7 +1,7 @@
 """`xqs backup` and `xqs restore`: all documents as constructors in one file, and back.
 
-The file is text in UTF-8. Its first line names the form; then each document has a line `document
-BYTES SHA256 ADDRESS`, its constructor of so many bytes, and a line feed; the last line is `end
+The file is text in UTF-8. The first line names the format. Then each document has a line `document
+BYTES SHA256 ADDRESS`, its constructor of BYTES bytes, and a line feed. The last line is `end
 COUNT`. The digest is that of the constructor as the server prints it.
 """
 
@@ -29,13 +29,13 @@ _PIECE = 1 << 20
 
 
 class NoBackup(XqError, ValueError):
-    """A file that is no whole backup, or one that was changed."""
+    """A file that is not a whole backup, or was changed."""
 
 
 @dataclass(frozen=True)
 class Entry:
-    """A document of a backup: its address, the digest of its constructor, and where that stands in
-    the file, in bytes."""
+    """A document of a backup: its address, the digest of its constructor, and the constructor's
+    place and length in the file, in bytes."""
 
     address: str
     digest: str
@@ -47,8 +47,8 @@ def digest_of(
     client: Client, address: str, is_still: bool = False,
     read: Callable[[int], object] = lambda _: None
 ) -> str:
-    """The digest of a document, whatever its length; `is_still` as for `back_up`. `read` is told
-    how many bytes have been read."""
+    """The digest of a document of any length; `is_still` as in `back_up`. `read` is called with the
+    number of bytes read so far."""
     digest, count = hashlib.sha256(), 0
 
     def write(text: str) -> None:
@@ -65,10 +65,10 @@ def digest_of(
 def back_up(
     client: Client, file: BinaryIO, is_still: bool = False, progress: Progress | None = None
 ) -> int:
-    """Writes all documents but temporary ones; how many.
+    """Writes all documents except temporary ones. Returns their number.
 
-    With `is_still` nobody stores or drops meanwhile: then temporary ones are written too, and none
-    is copied to be read.
+    `is_still` says that nobody stores or drops meanwhile. Then temporary documents are written too,
+    and no document is copied in order to read it.
     """
     file.write(FORM)
     addresses = _addresses(client, is_still)
@@ -111,19 +111,19 @@ def _copy(source: IO[bytes], target: BinaryIO) -> None:
 
 
 def entries(file: BinaryIO) -> Iterator[Entry]:
-    """The documents of a backup, each judged by its digest; NoBackup."""
+    """The documents of a backup, each checked by its digest. Raises NoBackup."""
     if file.readline() != FORM:
-        raise NoBackup("the file is no backup of this form")
+        raise NoBackup("the file is not a backup")
     count = 0
     while (line := file.readline()).startswith(b"document "):
         entry = _entry(line, file.tell())
         if _digest(file, entry.size) != entry.digest or file.read(1) != b"\n":
-            raise NoBackup(f"the backup's document {entry.address} is cut or was changed")
+            raise NoBackup(f"the backup's document {entry.address} is cut short or was changed")
         yield entry
         count += 1
         file.seek(entry.start + entry.size + 1)
     if line != f"end {count}\n".encode() or file.read(1):
-        raise NoBackup(f"the backup is cut, or goes on, after {count} documents")
+        raise NoBackup(f"the backup is cut short, or has more, after {count} documents")
 
 
 def _entry(line: bytes, start: int) -> Entry:
@@ -146,10 +146,10 @@ def _digest(file: BinaryIO, size: int) -> str:
 def restore(
     client: Client, file: BinaryIO, replace: bool, progress: Progress | None = None
 ) -> int:
-    """Stores the documents of a backup, and reads each back; how many.
+    """Stores the documents of a backup and reads each one back. Returns their number.
 
-    The whole file is judged before the first document is stored. NoBackup; ValueError where an
-    address has a document already, unless these are replaced; Refused and Wanting of the server.
+    The whole file is checked before the first document is stored. Raises NoBackup; ValueError if an
+    address has a document already and documents may not be replaced; Refused and Wanting.
     """
     wanted = list(entries(file))
     there = set(client.list())
@@ -168,7 +168,7 @@ def restore(
 
 
 def _restore_entry(client: Client, file: BinaryIO, entry: Entry, progress: Progress) -> None:
-    """Stores a document, and reads it back. NoBackup."""
+    """Stores a document and reads it back. Raises NoBackup."""
     file.seek(entry.start)
     store_again(client, entry.address, file.read(entry.size).decode(), progress)
     digest = digest_of(client, entry.address, read=lambda it: progress.reach(entry.size + it))
@@ -179,8 +179,7 @@ def _restore_entry(client: Client, file: BinaryIO, entry: Entry, progress: Progr
 def check_against(
     client: Client, file: BinaryIO, is_still: bool = False, progress: Progress | None = None
 ) -> list[str]:
-    """The addresses whose documents are no more as the backup has them; `is_still` as for
-    `back_up`."""
+    """The addresses whose documents now differ from the backup; `is_still` as in `back_up`."""
     held = {it.address: it for it in entries(file)}
     now = set(_addresses(client, is_still))
     progress = progress or silent()
@@ -194,18 +193,18 @@ def check_against(
 
 
 def main(words: Sequence[str]) -> int:
-    """Carries out `xqs backup`."""
+    """Runs `xqs backup`."""
     parser = argparse.ArgumentParser(
         prog="xqs backup",
         parents=[connection_options()],
-        description="Writes all documents to one file, and reads it back. Each document is of one "
-        "moment; what was changed meanwhile is told.",
+        description="Writes all documents to one file, and reads it back. Each document is a "
+        "consistent snapshot; documents that change meanwhile are listed.",
     )
     parser.add_argument("backup", type=Path)
-    parser.add_argument("--force", action="store_true", help="replace a file that is there")
+    parser.add_argument("--force", action="store_true", help="replace an existing file")
     given = parser.parse_args(words)
     if given.backup.exists() and not given.force:
-        raise FileExistsError(f"{given.backup} is there already; --force replaces it")
+        raise FileExistsError(f"{given.backup} exists already; --force replaces it")
     part = given.backup.with_name(given.backup.name + ".part")
     try:
         with connected(given) as client, open(part, "w+b") as file:
@@ -225,8 +224,9 @@ def main(words: Sequence[str]) -> int:
 
 
 def _pass_state(file: BinaryIO) -> None:
-    """Leaves a file that is a node's snapshot at its backup, and another one at its beginning."""
-    # (here, since snapshots stand on backups)
+    """Skips the head of a node's snapshot, so that the file stands at its backup; leaves any other
+    file at its beginning."""
+    # (here, since snapshots build on backups)
     from xqs.cluster import snapshots
 
     if file.readline() == snapshots.FORM:
@@ -237,16 +237,16 @@ def _pass_state(file: BinaryIO) -> None:
 
 
 def restore_main(words: Sequence[str]) -> int:
-    """Carries out `xqs restore`."""
+    """Runs `xqs restore`."""
     parser = argparse.ArgumentParser(
         prog="xqs restore",
         parents=[connection_options()],
         description="Stores the documents of a backup, or of a node's snapshot, and reads each "
-        "back. The whole file is judged before the first one is stored; other documents stay as "
+        "back. The whole file is checked before the first one is stored; other documents stay as "
         "they are.",
     )
     parser.add_argument("backup", type=Path)
-    parser.add_argument("--replace", action="store_true", help="replace documents that are there")
+    parser.add_argument("--replace", action="store_true", help="replace existing documents")
     given = parser.parse_args(words)
     place = server_of(given)
     warn_of_memory(place, "restore")

@@ -1,11 +1,11 @@
-"""Bounds of a request: how long the server may be at one, and how much memory it may have.
+"""Bounds of a request: how long the server may take for it, and how much memory it may use.
 
-All commands that start a server, the multiplexer, the page and the library share the options, the
-defaults and the texts that stand here:
+All commands that start a server, the multiplexer, the page and the library share these options,
+defaults and texts:
 
-    add_options(parser)                 --seconds N, --memory SIZE; 0 is none
+    add_options(parser)                 --seconds N, --memory SIZE; 0 is no bound
     bounds = bounds_of(parser.parse_args())
-    bounds.seconds, bounds.memory       None where there is none
+    bounds.seconds, bounds.memory       None if there is no bound
 """
 
 import argparse
@@ -17,23 +17,23 @@ from pathlib import Path
 from xqs.errors import XqError
 
 SECONDS = 60.0
-"""How long a server may be at one request, where nothing else is said."""
+"""How many seconds a server may take for a request, by default."""
 LONGEST = 1e9
 SHOWN_ADDRESSES = 10
-"""So many addresses of lost documents stand in a message."""
+"""How many addresses of lost documents a message names."""
 _UNITS = {"": 1, "K": 1 << 10, "M": 1 << 20, "G": 1 << 30, "T": 1 << 40}
 _SIZE = re.compile(r"(\d+(?:\.\d+)?)\s*([KMGT]?)(?:i?B)?", re.IGNORECASE)
 _ROOT = Path("/sys/fs/cgroup")
 _GROUPS = (Path("/sys/fs/cgroup/memory.max"), Path("/sys/fs/cgroup/memory/memory.limit_in_bytes"))
-"""Where a container's bound stands, by the two versions of the kernel's groups."""
+"""The files with a container's bound, in both versions of control groups."""
 
 
 class NoBound(XqError, ValueError):
-    """A text or a number that is no bound of time or memory."""
+    """A text or number that is no bound of time or memory."""
 
 
 def half_of_memory() -> int:
-    """Half of the memory that this machine has, or this container may take, in bytes."""
+    """Half of the memory that this machine has, or that this container may use, in bytes."""
     whole = os.sysconf("SC_PHYS_PAGES") * os.sysconf("SC_PAGE_SIZE")
     for file in (*_GROUPS, *_own_groups()):
         try:
@@ -44,8 +44,8 @@ def half_of_memory() -> int:
 
 
 def _own_groups() -> list[Path]:
-    """Where the bounds of the group stand that this process is in, as a unit of systemd has them,
-    and of the groups around it."""
+    """The files with the bounds of this process's control group, as a systemd unit has them, and of
+    the groups around it."""
     try:
         text = Path("/proc/self/cgroup").read_text(encoding="utf-8")
     except (OSError, ValueError):
@@ -57,17 +57,18 @@ def _own_groups() -> list[Path]:
 
 @dataclass(frozen=True)
 class Bounds:
-    """How many seconds a server may be at one request, and how many bytes it may have; None: any.
+    """How many seconds a server may take for a request, and how many bytes of memory it may use.
+    None is no bound.
 
-    The memory is that of its addresses (RLIMIT_AS), which the server takes little before it uses
-    them: a request that wants more is answered by status 2, `memory`, and the server goes on.
+    The bound on memory limits its address space (RLIMIT_AS), of which the server takes little
+    before it uses it. A request that needs more gets status 2, `memory`, and the server goes on.
     """
 
     seconds: float | None = SECONDS
     memory: int | None = field(default_factory=half_of_memory)
 
     def __post_init__(self) -> None:
-        """NoBound for what is no number above 0."""
+        """Raises NoBound unless the number is above 0."""
         if self.seconds is not None and not 0 < self.seconds <= LONGEST:
             raise NoBound(f"not a number of seconds: {self.seconds!r}")
         if self.memory is not None and self.memory <= 0:
@@ -94,7 +95,7 @@ def memory_of(text: str) -> int | None:
 
 
 def shown_size(size: int) -> str:
-    """A number of bytes as it is told: `12.0 GB`."""
+    """A number of bytes for people: `12.0 GB`."""
     unit = "G" if size >= _UNITS["G"] else "M"
     return f"{size / _UNITS[unit]:.{1 if unit == 'G' else 0}f} {unit}B"
 
@@ -105,32 +106,32 @@ def add_options(parser: argparse.ArgumentParser) -> None:
     half = half_of_memory()
     group.add_argument(
         "--seconds", type=seconds_of, metavar="N", default=SECONDS,
-        help="how long the server may be at one request, before it is ended and started again "
-        "(%(default)g; 0: any time)")
+        help="how many seconds the server may take for one request, before it is ended and started "
+        "again (%(default)g; 0: any time)")
     group.add_argument(
         "--memory", type=memory_of, metavar="SIZE", default=half,
-        help="how much memory the server may have, as 4G: a request that wants more is refused "
+        help="how much memory the server may use, as 4G: a request that needs more is refused "
         f"(half of this machine's, {shown_size(half)}; 0: any)")
 
 
 def bounds_of(given: argparse.Namespace) -> Bounds:
-    """The bounds that the options name."""
+    """The bounds that the options give."""
     return Bounds(given.seconds, given.memory)
 
 
 def overdue(seconds: float) -> str:
-    """What is said after the name of a request that the server was at for too long."""
+    """The message's end, after the request, when the server took too long for it."""
     return f"took over {seconds:g} seconds (--seconds N allows more, 0 any time)"
 
 
 def named(addresses: set[str]) -> str:
-    """Addresses as a message has them: the first ones, and how many more there are."""
+    """Addresses for a message: the first ones, and how many more there are."""
     names = sorted(addresses)
     more = f", and {len(names) - SHOWN_ADDRESSES:,} more" if len(names) > SHOWN_ADDRESSES else ""
     return ", ".join(names[:SHOWN_ADDRESSES]) + more
 
 
 def lost(addresses: set[str]) -> str:
-    """What is said of documents that were in the memory of a server which has ended."""
+    """The message about documents in the memory of a server that has ended."""
     return (f"the documents were in memory and are lost: {len(addresses):,} of them"
             + (f": {named(addresses)}" if addresses else ""))

@@ -1,8 +1,8 @@
-"""How often documents were changed, as far as one program sees it: by that a client knows whether a
-document stayed as it was while it was read in parts.
+"""How often documents have changed, as one program sees it. By these counts a client knows whether
+a document stayed the same while it read it in parts.
 
-Addresses share a bounded number of counts. So a token may be another one although the document is
-the same, and never the same one although the document may be another.
+Addresses share a fixed number of counts. So a token may change although the document is the same,
+but it never stays the same when the document changes.
 """
 
 import os
@@ -12,21 +12,22 @@ COUNTS = 1 << 16
 
 
 class Changes:
-    """Counts of changes. Whoever passes changes on notes each before a later read can see it."""
+    """Counts of changes. The program that passes changes on notes each one before a later read can
+    see it."""
 
     def __init__(self) -> None:
         self.begin_anew()
 
     def begin_anew(self) -> None:
-        """Anything may have been changed."""
+        """Notes that any document may have changed."""
         self._run = os.urandom(8).hex()
         self._counts: dict[int, int] = {}
 
     def note(self, address: bytes) -> None:
-        """The document at the address was changed, or may have been."""
+        """Notes that the document at the address has changed, or may have."""
         number = zlib.crc32(address) % COUNTS
         self._counts[number] = self._counts.get(number, 0) + 1
 
     def token(self, address: bytes) -> str:
-        """What stays the same as long as the document does."""
+        """A token that stays the same as long as the document does."""
         return f"{self._run}-{self._counts.get(zlib.crc32(address) % COUNTS, 0)}"

@@ -1,4 +1,4 @@
-"""The command `xqs`: a table of its commands, each a module that is imported when it is called."""
+"""The command `xqs`: a table of its commands, each in a module that is imported on demand."""
 
 import argparse
 import importlib
@@ -27,27 +27,27 @@ if TYPE_CHECKING:
 _IN_CHECKOUT = ("clients", "python", "src", "xqs")
 SERVER_VARIABLE = "XQS_SERVER"
 INSTALLED_SERVER = "xq_server"
-"""The command of the server that Debian's package installs."""
+"""The server command that the Debian package installs."""
 MOST_KEPT = 1_048_576
-"""The most megabytes that a server can be asked to keep."""
+"""The most megabytes that a server may be told to keep."""
 
 
 @dataclass(frozen=True)
 class Entry:
-    """A command: the function that carries it out, as `module:function`, and what it does.
+    """A command: its function, as `module:function`, and a line about what it does.
 
-    The function takes the words after the command's own, at least so many, and gives the exit
-    status.
+    The function takes the words after the command's name, at least `least` of them, and returns the
+    exit status.
     """
 
     function: str
     summary: str
     least: int = 0
     has_command: bool = False
-    """Whether it takes `-- COMMAND` by itself."""
+    """Whether the command handles `-- COMMAND` itself."""
 
     def load(self) -> Callable[[Sequence[str]], int]:
-        """The function; ImportError where its module wants a package that is not there."""
+        """The function. Raises ImportError if its module needs a package that is not installed."""
         module, _, name = self.function.partition(":")
         function: Callable[[Sequence[str]], int] = getattr(importlib.import_module(module), name)
         return function
@@ -66,19 +66,19 @@ COMMANDS = {
     "gc": Entry("xqs.gc:main", "drop temporary documents that a crash left"),
     "shell": Entry("xqs.shell:main", "ask queries by hand"),
     "serve": Entry("xqs.serve:main", "serve one file in the background", 1, has_command=True),
-    "stop": Entry("xqs.serve:stop_main", "end what serves a file in the background", 1),
+    "stop": Entry("xqs.serve:stop_main", "stop serving a file in the background", 1),
     "mux": Entry("xqs.mux:main", "one server or several for many clients", has_command=True),
-    "status": Entry("xqs.mux_control:status_main", "how a multiplexer that runs does", 1),
+    "status": Entry("xqs.mux_control:status_main", "show the status of a running multiplexer", 1),
     "node": Entry(
         "xqs.cluster.main:main", "a server that follows a replicated log", has_command=True),
     "snapshot": Entry(
-        "xqs.cluster.main:snapshot_main", "have a node take a snapshot now", has_command=True),
+        "xqs.cluster.main:snapshot_main", "make a node take a snapshot now", has_command=True),
     "web": Entry("xqs.web:main", "HTTP on loopback, and a page", has_command=True),
 }
 
 
 def checkout_server() -> Path | None:
-    """The command `serve` of the checkout that this package is run from; None where it is installed
+    """The command `serve` of the checkout that this package runs from; None if it is installed
     elsewhere."""
     folder = Path(__file__).resolve().parent
     if folder.parts[-4:] != _IN_CHECKOUT:
@@ -90,9 +90,9 @@ def checkout_server() -> Path | None:
 def connection_options(
     bounded: bool = True, file: bool = True, kept: bool = True
 ) -> argparse.ArgumentParser:
-    """The options that say where the server is, as a parent of a command's parser; with the bounds
-    of a request, the file of the documents, and how much one server keeps, unless the command has
-    its own."""
+    """The options that say where the server is, as a parent of a command's parser. Includes the
+    bounds of a request, the file of the documents, and how much one server keeps, unless the
+    command has its own."""
     options = argparse.ArgumentParser(add_help=False)
     group = options.add_argument_group("the server")
     group.add_argument(
@@ -104,15 +104,15 @@ def connection_options(
     )
     if file:
         group.add_argument(
-            "--file", metavar="PATH", help="the file of the documents, which is asked for where "
-            "`xqs serve` serves it, or else with the command that is started"
+            "--file", metavar="PATH", help="the file of the documents: through `xqs serve` if that "
+            "serves the file, else by a server that is started"
         )
     options.set_defaults(kept_by_one=None)
     if kept:
         group.add_argument(
             "--kept", metavar="MB", type=_megabytes, dest="kept_by_one",
-            help="how much a server that is started keeps of what queries read, from 1 to "
-            "1,048,576; ./serve takes a sixteenth of the free memory otherwise, at least 128"
+            help="the cache of a server that is started, for what queries read, from 1 to "
+            "1,048,576; by default ./serve takes a sixteenth of the free memory, at least 128"
         )
     if bounded:
         bounds.add_options(options)
@@ -120,16 +120,16 @@ def connection_options(
 
 
 def _megabytes(word: str) -> int:
-    """The number of megabytes that the server takes. ArgumentTypeError for any other word."""
+    """The number of megabytes for the server. Raises ArgumentTypeError for any other word."""
     if word.isascii() and word.isdecimal() and 1 <= int(word) <= MOST_KEPT:
         return int(word)
     raise argparse.ArgumentTypeError(f"not a number from 1 to {MOST_KEPT:,}: {word!r}")
 
 
 def server_of(given: argparse.Namespace) -> Endpoint:
-    """Where the server is, by the options, the environment, the checkout, or what is installed.
+    """Where the server is, by the options, the environment, the checkout, or the installed package.
 
-    ValueError where nothing says so, or it is no such place.
+    Raises ValueError if none of these says so, or if it is no such place.
     """
     installed = shutil.which(INSTALLED_SERVER)
     where = given.server or os.environ.get(SERVER_VARIABLE) or checkout_server() or installed
@@ -150,20 +150,21 @@ def _with_words(place: Endpoint, option: str, value: str) -> Endpoint:
 
 
 def is_lasting(place: Endpoint) -> bool:
-    """Whether documents are there after the connection's end: not where a command is started that
-    names no file, since they live in its memory."""
+    """Whether documents stay after the connection ends. They don't if a command without a file is
+    started, since they are in its memory."""
     return not isinstance(place, Command) or is_on_file(place.words)
 
 
 def warn_of_memory(place: Endpoint, command: str) -> None:
-    """Says so, where what is stored lives in memory and is gone at the command's end."""
+    """Warns if documents are in memory and will be lost when the command ends."""
     if not is_lasting(place):
-        print(f"xqs {command}: no file is named, so the documents live in memory and are gone when "
-              "this command ends: name a --file, or a server that goes on", file=sys.stderr)
+        print(f"xqs {command}: no file is named, so the documents are in memory and will be lost "
+              "when this command ends: give --file, or a server that keeps running",
+              file=sys.stderr)
 
 
 def connected(given: argparse.Namespace, place: Endpoint | None = None) -> "Client":
-    """A connection to the server that the options name, within the bounds that they name."""
+    """A connection to the server of the options, within the bounds of the options."""
     from xqs.client import connect
 
     it = bounds.bounds_of(given)
@@ -171,10 +172,10 @@ def connected(given: argparse.Namespace, place: Endpoint | None = None) -> "Clie
 
 
 def with_server(entry: Entry, words: Sequence[str]) -> list[str]:
-    """The words of a command, with the server that stands behind `--` as that of `--server`.
+    """The words of a command, with the server after `--` as its `--server`.
 
-    Where too few words stand before the `--` it is no end of them, but says that the next one is no
-    option: `xqs query -- -1`.
+    If too few words come before the `--`, it is only the mark that the next word is no option: `xqs
+    query -- -1`.
     """
     marks = [number for number, word in enumerate(words) if word == "--"]
     after_least = [it for it in marks if it >= entry.least + (it != marks[0])]
@@ -183,14 +184,14 @@ def with_server(entry: Entry, words: Sequence[str]) -> list[str]:
     at = after_least[0]
     command = list(words[at + 1 :])
     if not command:
-        raise NoPlace("behind -- stands the command of a server")
+        raise NoPlace("a server's command must follow --")
     if any(it == "--server" or it.startswith("--server=") for it in words[:at]):
-        raise NoPlace("--server and a command behind -- are two servers")
+        raise NoPlace("--server and a command after -- name two servers")
     return ["--server", shlex.join(command), *words[:at]]
 
 
 def main(words: Sequence[str] | None = None) -> int:
-    """Carries out a command, and gives its exit status: 0 done, 1 refused, 2 misused."""
+    """Runs a command and returns its exit status: 0 done, 1 refused, 2 wrong usage."""
     words = list(sys.argv[1:] if words is None else words)
     given = _parser().parse_args(words[:1])
     rest = words[1:]
@@ -200,9 +201,9 @@ def main(words: Sequence[str] | None = None) -> int:
     try:
         return entry.load()(rest if entry.has_command else with_server(entry, rest))
     except ModuleNotFoundError as error:
-        print(f"xqs {given.command}: it wants the package {error.name}", file=sys.stderr)
+        print(f"xqs {given.command}: it needs the package {error.name}", file=sys.stderr)
     except BrokenPipeError:
-        # Who read the output has gone; Python writes what is left as it ends, which is to be quiet.
+        # The reader of the output has gone. Python would report that when it flushes at exit.
         os.dup2(os.open(os.devnull, os.O_WRONLY), sys.stdout.fileno())
     except (XqError, ValueError, OSError) as error:
         print(f"xqs {given.command}: {error}", file=sys.stderr)
@@ -213,9 +214,10 @@ def main(words: Sequence[str] | None = None) -> int:
 
 
 def _end_by_signals() -> None:
-    """Has the signals that end a program do so by an exception, so that what was begun is undone.
+    """Turns the signals that end a program into an exception, so that unfinished work is undone.
 
-    One that is ignored stays so, as `nohup` wants it. Only a main thread may ask for signals.
+    An ignored signal stays ignored, as `nohup` needs it. Only the main thread can set signal
+    handlers.
     """
     if threading.current_thread() is not threading.main_thread():
         return
@@ -229,7 +231,7 @@ def _end_by(number: int, _: FrameType | None) -> None:
 
 
 def _show_any_name() -> None:
-    """Has names of files that are no text shown with escapes, where they would be a fault."""
+    """Shows file names that are no valid text with escapes, in place of an error."""
     for stream in (sys.stdout, sys.stderr):
         if isinstance(stream, io.TextIOWrapper):
             stream.reconfigure(errors="backslashreplace")
@@ -240,7 +242,7 @@ def _parser() -> argparse.ArgumentParser:
     parser = argparse.ArgumentParser(
         prog="xqs",
         description="A client of xq_server.",
-        epilog=f"commands:\n{table}\n\n'xqs COMMAND --help' says more of each. "
+        epilog=f"commands:\n{table}\n\n'xqs COMMAND --help' explains each. "
         "'xqs COMMAND .. -- SERVER [WORDS]' starts that server.",
         formatter_class=argparse.RawDescriptionHelpFormatter,
     )

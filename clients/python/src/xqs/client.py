@@ -30,28 +30,28 @@ from xqs.values import Item, items, values
 from xqs.xml_out import KEEP
 
 INTERRUPTS = (KeyboardInterrupt, SystemExit, TimeoutError)
-"""What ends a connection at once where it leaves a `with`."""
+"""Exceptions that end a connection at once when they leave a `with`."""
 
 
 class Client:
     """A connection to a server. Any number of threads may use it at once.
 
-    Methods that end in `_later` send the request and give a future of its reply's text; the others
-    wait. Each raises Refused, Wanting, Closed or TimedOut by what becomes of the request,
-    FrameFault where it is too long for a frame, and NotAnAddress where an address is none; then
-    nothing was sent. All of them are XqErrors.
+    Methods that end in `_later` send the request and return a future of its reply's text; the
+    others wait. Each may raise Refused, Wanting, Closed or TimedOut. Before anything is sent, each
+    raises FrameFault if the request is too long for a frame, and NotAnAddress if an address is
+    invalid. All of them are XqErrors.
 
-    `timeout` is how many seconds a call may take in all; 0 is any time, and without one the
-    connection's bound holds, which is how long the server may be at one request. When a call is
-    given up, or a future is cancelled, the caller is free at once. A server that was started here
-    is then ended, and started again, unless documents in its memory would be lost.
+    `timeout` is how many seconds a call may take in all; 0 is no limit. Without it only the
+    connection's bound holds: how long the server may take for one request. A call that is given up,
+    or whose future is cancelled, returns at once. If the server was started here, it is then ended
+    and started again, unless documents in its memory would be lost.
     """
 
     def __init__(
         self, stream: Stream, origin: Origin | None = None, seconds: float | None = None
     ) -> None:
-        """`origin` says where another stream comes from, when this one ends; `seconds` is how long
-        the server may be at one request."""
+        """`origin` makes the next stream when this one ends. `seconds` is how long the server may
+        take for one request."""
         self._origin, self._seconds = origin, seconds
         self._link = Link(stream, origin)
 
@@ -60,8 +60,8 @@ class Client:
         return f"<xqs.Client {place}{'' if self._link.stream else ', ended'}>"
 
     def state_of(self, address: str) -> str | None:
-        """What stays the same as long as nobody changes the document at the address; None where
-        that can't be told, as at a socket behind which there is no multiplexer of this user's."""
+        """A token that stays the same as long as nobody changes the document at the address. None
+        if that is unknown, as at a socket without a multiplexer of this user."""
         if isinstance(self.place, Command):
             return self._link.changes.token(address.encode())
         if self.place is None:
@@ -74,23 +74,23 @@ class Client:
 
     @property
     def has_server(self) -> bool:
-        """Whether the server is one that was started here, which nobody else can ask."""
+        """Whether the server was started here, so that nobody else can ask it."""
         return isinstance(self.place, Command)
 
     @property
     def place(self) -> Endpoint | None:
-        """Where the server is that is asked; None of a client over a stream of its caller's."""
+        """Where the server is; None if the caller gave the stream."""
         return self._origin.place if self._origin else None
 
     def request_later(self, request: Request) -> TextFuture:
         """Sends a request; the future gives the text of its reply.
 
-        This waits while the server's pipe is full. Closed where the stream has ended.
+        Waits while the server's pipe is full. Raises Closed if the stream has ended.
         """
         return self._link.send(request, self._seconds)
 
     def request(self, request: Request, timeout: float | None = None) -> str:
-        """Sends a request, and gives the text of its reply."""
+        """Sends a request and returns the text of its reply."""
         if not timeout:
             seconds = self._seconds if timeout is None else None
             return _awaited(self._link.send(request, seconds))
@@ -106,7 +106,7 @@ class Client:
             raise TimedOut(f"no reply within {timeout:g} seconds to: {shown}") from None
 
     def query_text_later(self, query: str) -> TextFuture:
-        """Asks for the value of a query, as it is printed."""
+        """Asks for the value of a query, as the server prints it."""
         return self.request_later(query_of(query))
 
     def store_later(self, address: str, query: str) -> TextFuture:
@@ -121,25 +121,24 @@ class Client:
     def query_text(
         self, query: str, *, timeout: float | None = None, names: str = KEEP
     ) -> str:
-        """The value of a query, as it is printed. By `names="flat"` a query has names with a
-        prefix, and so has its value, where documents were stored with flat names."""
+        """The value of a query, as the server prints it. With `names="flat"` the query and its
+        value have prefixes, over documents that were stored with flat names."""
         return told(self.request(query_of(asked(query, names)), timeout), names)
 
     def query(
         self, query: str, *, timeout: float | None = None, names: str = KEEP
     ) -> Items:
-        """The items of a query's value; `names` as of `query_text`."""
+        """The items of a query's value; `names` as in `query_text`."""
         return values(self.query_text(query, timeout=timeout, names=names))
 
     def iterate(
         self, query: str, *, timeout: float | None = None, names: str = KEEP
     ) -> Iterator[Item]:
-        """The items of a query's value one by one, each read as it is asked for; `names` as of
-        `query_text`."""
+        """The items of a query's value one by one; `names` as in `query_text`."""
         return items(self.query_text(query, timeout=timeout, names=names))
 
     def store(self, address: str, query: str, *, timeout: float | None = None) -> bool:
-        """Stores the document that the query gives; whether it replaced another one."""
+        """Stores the document that the query gives. Returns whether it replaced another one."""
         check_lasting(address)
         return self.request(store_of(address, query), timeout) == "replaced"
 
@@ -153,33 +152,33 @@ class Client:
 
     @property
     def is_losing(self) -> bool:
-        """Whether documents that were stored here would be lost if the server were ended now."""
+        """Whether documents that were stored here would be lost if the server ended now."""
         return self._link.watch.is_losing
 
     @property
     def is_ended(self) -> bool:
-        """Whether nothing more can be asked by this connection."""
+        """Whether this connection takes no more requests."""
         return bool(self._link.watch.ended)
 
     @property
     def is_busy(self) -> bool:
-        """Whether a request is under way, be it one that nobody awaits any more."""
+        """Whether a request is under way, even one that nobody waits for."""
         return self._link.watch.is_busy
 
     def restart(self) -> set[str]:
-        """Ends the server that was started here with what it is at, and starts another one; gives
-        the addresses of documents that were in its memory, and are lost."""
+        """Ends the server that was started here, with its current request, and starts another one.
+        Returns the addresses of the documents that were lost with its memory."""
         return self._link.restart()
 
     def close(self) -> int | None:
-        """Ends the connection once the replies under way have come.
+        """Ends the connection when all replies have come.
 
-        Of a command that was started its exit status, else None.
+        Returns the exit status of a command that was started, else None.
         """
         return self._link.finish()
 
     def kill(self) -> None:
-        """Ends the connection at once, and a command that was started with it."""
+        """Ends the connection at once, and a command that was started for it."""
         self._link.kill()
 
     def __enter__(self) -> "Client":
@@ -198,13 +197,13 @@ class Client:
 
 
 def _awaited(future: TextFuture, timeout: float | None = None) -> str:
-    """The result of a future, which is cancelled where it is awaited no longer."""
+    """The result of a future, which is cancelled if the wait is given up."""
     try:
         return future.result(timeout)
     except TimeoutError:
         if future.cancel() or future.exception():
             raise
-        return future.result()  # It has come in between.
+        return future.result()  # The result came in between.
     except BaseException:
         future.cancel()
         raise
@@ -215,12 +214,12 @@ def connect(
 ) -> Client:
     """Connects to a server: `unix:PATH`, `tcp:PORT`, `tcp:HOST:PORT`, or a command to start.
 
-    A command is one text, as a shell reads it, or a list of words; where it names a file that `xqs
-    serve` serves, that one is asked, and nothing is started. `timeout` is how many seconds the
-    server may be at one request, `memory` how many bytes a server that is started may have, by
-    default half of the machine's; 0 is any. NotConnected (an OSError) where there is nothing to
-    connect to, or what listens beside the file serves another one, NoPlace (a ValueError) where
-    `where` is nothing of the kind.
+    A command is one text, as a shell reads it, or a list of words. If it names a file that `xqs
+    serve` serves, the client connects to that server and starts nothing. `timeout` is how many
+    seconds the server may take for one request. `memory` is how many bytes a started server may
+    use, by default half of the machine's. 0 is no bound. Raises NotConnected (an OSError) if
+    nothing listens there, or if the socket beside the file serves another file; NoPlace (a
+    ValueError) if `where` is no such place.
     """
     bounds = bounds_for(timeout, memory)
     place = asked_at(endpoint(where))
@@ -229,5 +228,5 @@ def connect(
 
 
 def bounds_for(timeout: float | None, memory: int | None) -> Bounds:
-    """The bounds that the library's arguments name; NoBound where they name none."""
+    """The bounds in the library's arguments. Raises NoBound if they are none."""
     return Bounds(timeout or None, half_of_memory() if memory is None else memory or None)

@@ -31,14 +31,14 @@ def _words(name: str, description: str) -> argparse.ArgumentParser:
 
 
 def out_options(words: argparse.ArgumentParser) -> None:
-    """Adds the options of how nodes are printed."""
-    words.add_argument("--xml", action="store_true", help="nodes as XML, one item a line")
+    """Adds the options for the printing of nodes."""
+    words.add_argument("--xml", action="store_true", help="nodes as XML, one item per line")
     words.add_argument("--names", choices=[KEEP, FLAT], default=KEEP,
                        help="flat shows p__a as p:a; a query may then have such names too")
 
 
 def query(words: Sequence[str]) -> int:
-    """Asks a query. Where its text is refused the place is shown, where it can be told."""
+    """Asks a query. If its text is refused, shows the place of the fault if it can be found."""
     parser = _words("query", "Asks a query, and prints its value as an expression that gives it.")
     parser.add_argument("query", help="the text, or - to read it from standard input")
     parser.add_argument("--set", action="append", default=[], metavar="NAME=TEXT",
@@ -85,7 +85,7 @@ def store(words: Sequence[str]) -> int:
 def store_file(
     client: Client, address: str, file: BinaryIO, source: str, choices: XmlChoices
 ) -> str:
-    """Stores what a file holds, as `stores.store_file`; `stored` or `replaced`."""
+    """Stores a file, as `stores.store_file` does. Returns `stored` or `replaced`."""
     size = os.fstat(file.fileno()).st_size
     with progress_of(size=size) as progress:
         stored = stores.store_file(client, address, file, source, choices, progress=progress)
@@ -104,7 +104,7 @@ def get(words: Sequence[str]) -> int:
 
 
 def _print_document(client: Client, address: str, as_xml: bool, names: str) -> None:
-    # On a terminal the document itself is seen, and a line between its parts would stand in it.
+    # On a terminal the progress line would stand between the parts of the document.
     with nullcontext(None) if sys.stdout.isatty() else progress_of() as progress:
         steps = document_events(client, address, progress)
         if as_xml:
@@ -119,7 +119,8 @@ def drop(words: Sequence[str]) -> int:
     parser = _words("drop", "Drops documents, each by its address, or all that match a pattern.")
     parser.add_argument("address", nargs="+", help="an address, or a pattern such as 'books/*': * "
                         "stands for any characters, slashes too, ? for one, [ab] for one of these")
-    parser.add_argument("--yes", action="store_true", help="don't ask before a pattern's go")
+    parser.add_argument("--yes", action="store_true",
+                        help="don't ask before dropping what matches a pattern")
     given = parser.parse_args(words)
     with connected(given) as client:
         found = chosen(client, given.address)
@@ -139,9 +140,10 @@ def _say_drop(text: str) -> None:
 
 def list_addresses(words: Sequence[str]) -> int:
     """Prints the addresses."""
-    parser = _words("list", "Prints the addresses, one a line.")
+    parser = _words("list", "Prints the addresses, one per line.")
     parser.add_argument("prefix", nargs="?", default="",
-                        help="those alone that begin so, or match a pattern such as 'books/*.xml'")
+                        help="only those with this prefix, or that match a pattern such as "
+                        "'books/*.xml'")
     given = parser.parse_args(words)
     with connected(given) as client:
         wanted = named_by(client.list(), given.prefix)

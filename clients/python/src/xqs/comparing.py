@@ -1,4 +1,4 @@
-"""Whether the servers answer alike: a read in so many is asked of all of them."""
+"""Checks that the servers give the same answers: sends one read in many to all of them."""
 
 import asyncio
 import contextlib
@@ -16,16 +16,16 @@ from xqs.replicas import STOPPED, Replicas
 from xqs.waiting import cancelled
 
 SAMPLE = 60
-"""So many reads are kept."""
+"""How many reads the sample holds."""
 LARGEST = 20_000
-"""Longer requests are not kept, in bytes."""
+"""The longest request in the sample, in bytes."""
 LONGEST = 0.25
-"""Reads that took longer are not compared: each would hold all servers."""
+"""Slower reads, in seconds, are not compared: each would occupy all servers."""
 
 
 def evidence_folder(command: Sequence[str]) -> Path:
-    """Where different replies are kept: beside the file of the documents, else in the user's folder
-    for states of programs."""
+    """Where different replies are saved: beside the file of the documents, else in the user's state
+    folder."""
     file = file_of(command)
     if file is not None:
         return file.absolute().parent
@@ -34,7 +34,7 @@ def evidence_folder(command: Sequence[str]) -> Path:
 
 
 def write_evidence(folder: Path, payload: bytes, replies: Sequence[tuple[str, bytes]]) -> Path:
-    """Keeps a request and its replies in a file of its own. OSError."""
+    """Saves a request and its replies in a file of its own. Raises OSError."""
     folder.mkdir(parents=True, exist_ok=True)
     name = f"xqs-differs-{time.strftime('%Y%m%d-%H%M%S')}-{os.getpid()}-{os.urandom(3).hex()}"
     path = folder / name
@@ -52,9 +52,9 @@ def write_evidence(folder: Path, payload: bytes, replies: Sequence[tuple[str, by
 
 
 class Comparing:
-    """Compares replies, and stops all writes where two differ.
+    """Compares replies, and stops all writes if two differ.
 
-    `count` is how many reads were compared, `sample` has some of those that clients asked.
+    `count` is how many reads were compared. `sample` holds some of the clients' reads.
     """
 
     def __init__(self, replicas: Replicas, every: int, command: Sequence[str],
@@ -78,7 +78,7 @@ class Comparing:
             task.add_done_callback(self._tasks.discard)
 
     def _keep(self, payload: bytes) -> None:
-        """Keeps a sample in which each read stands as likely as any other."""
+        """Keeps a sample that each read has an equal chance to be in."""
         if len(payload) > LARGEST:
             return
         if len(self.sample) < SAMPLE:
@@ -97,7 +97,7 @@ class Comparing:
                 self.differ(payload, sure)
 
     def differ(self, payload: bytes, replies: Sequence[tuple[str, bytes]]) -> None:
-        """Stops all writes, and keeps what was answered differently."""
+        """Stops all writes, and saves the replies that differ."""
         if self._replicas.differs:
             return
         self._replicas.differs = "servers gave different replies to one request"
@@ -105,12 +105,12 @@ class Comparing:
             path = write_evidence(evidence_folder(self._command), payload, replies)
             where = f"the request and the replies are in {path}"
         except OSError as error:
-            where = f"they could not be kept ({error})"
+            where = f"they could not be saved ({error})"
         names = " and ".join(name for name, _ in replies)
         self._say(f"{names} gave different replies to one request: nothing is stored or dropped "
                   f"any more; {where}")
         self._replicas.refuse_writes(STOPPED)
 
     async def stop(self) -> None:
-        """Compares nothing more."""
+        """Ends all comparisons."""
         await cancelled(*self._tasks)

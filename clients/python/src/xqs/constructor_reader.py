@@ -1,8 +1,9 @@
 """Constructors as people and programs write them, read as events: for documents whose text is too
-long for a request.
+long for one request.
 
-White space and comments may stand anywhere, strings in either quotes and with references, and
-strings as content. Anything else that makes a document, as a path, is for the server alone.
+White space and comments may come anywhere. Strings may have either kind of quotes and references,
+and a string may be content. Only the server can evaluate anything else that makes a document, as a
+path.
 """
 
 import re
@@ -16,7 +17,7 @@ from xqs.xml_names import NAMESPACE, NameFault, Names, incoming
 
 _SPACE = r"[ \t\n]"
 _STRING = r"""(?:"[^"]*+(?:""[^"]*+)*+"|'[^']*+(?:''[^']*+)*+')"""
-# No possessive quantifier around a group that captures: Python 3.11.2 has a fault there.
+# No possessive quantifier around a group that captures: Python 3.11.2 has a bug there.
 _TOKEN = re.compile(
     rf"""(?P<space>{_SPACE}++)
     |(?P<head>(?P<kind>document|text|comment|element|attribute|processing-instruction)
@@ -29,12 +30,12 @@ _REFERENCE = re.compile(r"&(?:(lt|gt|amp|quot|apos)|#([0-9]+)|#x([0-9a-fA-F]+));
 _PREDEFINED = {"lt": "<", "gt": ">", "amp": "&", "quot": '"', "apos": "'"}
 _KINDS = {it.value: it for it in NodeKind}
 _NAMED = frozenset((NodeKind.ELEMENT, NodeKind.ATTRIBUTE, NodeKind.INSTRUCTION))
-NOT_ONE = "what is to be stored is not exactly one document"
+NOT_ONE = "the text is not exactly one document"
 
 
 class _Parent:
-    """A constructor that is open; `strings` are those that stand side by side in it now, `names`
-    those of its attributes."""
+    """A constructor that is open. `strings` are the adjacent strings read so far, `names` the names
+    of its attributes."""
 
     __slots__ = ("kind", "name", "strings", "names", "has_content")
 
@@ -46,13 +47,13 @@ class _Parent:
 
 
 class ConstructorReader:
-    """The events of one document; PlacedFault where the text is anything else.
+    """The events of one document. Raises PlacedFault for any other text.
 
-    `names` says what becomes of names with a colon: `flat` takes them.
+    `names` says what happens to names with a colon: `flat` accepts them.
     """
 
     def __init__(self, text: str, source: str, names: Names = Names.REFUSE) -> None:
-        """`source` is how messages call the text."""
+        """`source` is the text's name in messages."""
         self._text = text.replace("\r\n", "\n").replace("\r", "\n") if "\r" in text else text
         self.length = len(text)
         self._source = source
@@ -64,7 +65,7 @@ class ConstructorReader:
         self._wants_comma = self._after_comma = self._is_over = False
 
     def fault(self, why: str) -> PlacedFault:
-        """A refusal at the place that was read last."""
+        """A refusal at the token that was read last."""
         return PlacedFault(self._source, *line_and_column(self._text, self._at), why)
 
     def __iter__(self) -> Iterator[Event]:
@@ -85,18 +86,18 @@ class ConstructorReader:
                 self._events.clear()
             self._at = found.end()
         if not self._is_over:
-            raise self.fault("the text ends inside of a constructor" if self._stack else NOT_ONE)
+            raise self.fault("the text ends inside a constructor" if self._stack else NOT_ONE)
 
     def _comment(self) -> int:
-        """The end of the comment that stands here."""
+        """The end of the comment that begins here."""
         end = comment_end(self._text, self._at) if self._text.startswith("(:", self._at) else None
         if end is None:
-            raise self.fault("a text that is too long for a request has constructors alone, as "
-                             "document {element a {\"b\"}}, and here is something else")
+            raise self.fault("a text that is too long for a request must have only constructors, "
+                             "as document {element a {\"b\"}}, but here is something else")
         return end
 
     def _item(self, kind: NodeKind | None) -> _Parent | None:
-        """An item begins; what holds it. The kind is None for a string."""
+        """Begins an item, and returns the constructor around it. The kind is None for a string."""
         if self._wants_comma:
             raise self.fault("a comma is missing before this")
         self._wants_comma, self._after_comma = True, False
@@ -142,7 +143,7 @@ class ConstructorReader:
         elif parent.kind is NodeKind.DOCUMENT:
             raise self.fault("a document has no attributes")
         elif parent.has_content:
-            raise self.fault("an attribute stands after other content")
+            raise self.fault("an attribute comes after other content")
         elif name in parent.names:
             raise self.fault(f"the element has two attributes called {name}")
         else:
@@ -155,7 +156,7 @@ class ConstructorReader:
         if not self._stack:
             raise self.fault("a brace closes that was not opened")
         if self._after_comma:
-            raise self.fault("nothing stands after the comma")
+            raise self.fault("nothing follows the comma")
         last = self._stack.pop()
         self._wants_comma, self._is_over = True, not self._stack
         if last.kind in PARENTS:
@@ -166,11 +167,11 @@ class ConstructorReader:
 
     def _comma(self, _: re.Match[str]) -> None:
         if not self._wants_comma:
-            raise self.fault("a comma stands before the first item or after another one")
+            raise self.fault("a comma comes before the first item or after another comma")
         self._wants_comma, self._after_comma = False, True
 
     def _end_text(self, parent: _Parent) -> None:
-        """Strings that stand side by side are one text."""
+        """Passes adjacent strings on as one text."""
         if parent.strings and parent.kind in PARENTS:
             text = " ".join(parent.strings)
             parent.strings.clear()
@@ -184,7 +185,7 @@ class ConstructorReader:
         if ":" not in name and name != NAMESPACE:
             return kind, name
         if not self._is_flat:
-            raise self.fault(f"the name {name} wants namespaces, which the server doesn't have; "
+            raise self.fault(f"the name {name} needs namespaces, which the server doesn't have; "
                              "the choice 'flat' takes it")
         try:
             return kind, self._stored.setdefault(name, incoming(Names.FLAT)(name))
@@ -192,7 +193,7 @@ class ConstructorReader:
             raise self.fault(str(error)) from None
 
     def _value(self, found: re.Match[str], group: str) -> str:
-        """The text of a string, of that group of the match."""
+        """The text of a string, from that group of the match."""
         literal, self._at = found[group], found.start(group)
         quote, text = literal[0], literal[1:-1]
         if quote in text:
@@ -215,7 +216,7 @@ class ConstructorReader:
 
 
 def _why_no_value(kind: NodeKind, name: str, value: str) -> str:
-    """Why a node can't have this name or value; empty where it can."""
+    """Why a node can't have this name or value; empty if it can."""
     if kind is NodeKind.COMMENT and ("--" in value or value.endswith("-")):
         return "a comment holds -- or ends in -"
     if kind is NodeKind.INSTRUCTION and "?>" in value:

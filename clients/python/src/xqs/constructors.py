@@ -1,4 +1,4 @@
-"""Events as the constructors that the server prints, character by character."""
+"""Events as the constructors that the server prints, byte for byte."""
 
 from collections.abc import Callable, Iterable
 from dataclasses import dataclass
@@ -18,8 +18,8 @@ def printed_atom(value: int | Decimal | str) -> str:
 class ConstructorWriter:
     """Writes the text of items as their events come.
 
-    Texts that stand side by side below a node are written as one, as they are one when the node is
-    made; so what is written of a document is what the server prints of it.
+    Adjacent texts below a node are written as one, because they become one when the node is made.
+    So the text of a document is what the server prints of it.
     """
 
     write: Callable[[str], object]
@@ -49,8 +49,8 @@ class ConstructorWriter:
             self.write(printed_atom(event.value))
 
     def printed(self, text: str) -> None:
-        """Writes items as the server has printed them, at least one; of nodes none is a text that
-        goes on with what was written before."""
+        """Writes items as the server printed them, at least one. No text among the nodes may
+        continue a text that was written before."""
         self._end_text()
         self._comma()
         self.write(text)
@@ -74,7 +74,7 @@ class ConstructorWriter:
 
 
 def write_constructors(events: Iterable[Event], write: Callable[[str], object]) -> None:
-    """Writes the text of a whole value."""
+    """Ends the text of a whole value."""
     writer = ConstructorWriter(write)
     for event in events:
         writer.event(event)

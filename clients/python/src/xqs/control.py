@@ -1,9 +1,9 @@
-"""How a multiplexer that runs is asked how it does, and given another program.
+"""How to ask a running multiplexer for its status, or to give it another program.
 
-Beside the place where clients connect it has a socket of its own, which its owner alone can open.
-A request is one line: `status`, `metrics`, `process`, `file`, `stop`, `changes` and an address, or
-`upgrade` and the words of a command as JSON. The answer is lines; the last one is `done`, or
-`refused` and why.
+Beside the place for clients it has a socket of its own, which only its owner can open. A request is
+one line: `status`, `metrics`, `process`, `file`, `stop`, `changes` and an address, or `upgrade` and
+the words of a command as JSON. The answer is lines. The last one is `done`, or `refused` and the
+reason.
 """
 
 import asyncio
@@ -23,11 +23,12 @@ from xqs.listening import PlaceError, listen_unix, removed_at_end
 MOST = 1 << 16
 """The longest line, in bytes."""
 SECONDS = 10.0
-"""How long the answer to a question may take, but for an upgrade."""
+"""How long the answer to a question may take, in seconds; an upgrade may take longer."""
 
 Say = Callable[[str], Awaitable[None]]
 Action = Callable[[str, Say], Awaitable[None]]
-"""Carries out a request with this argument, and says lines; XqError refuses it."""
+"""Carries out a request with this argument, and passes lines to `say`. Raises XqError to refuse
+it."""
 
 
 class NotRunning(XqError):
@@ -35,11 +36,11 @@ class NotRunning(XqError):
 
 
 class Refused(XqError):
-    """The multiplexer refused what it was asked."""
+    """The multiplexer refused the request."""
 
 
 def control_path(place: str) -> Path:
-    """The socket by which the multiplexer that listens at a place is asked. PlaceError."""
+    """The control socket of the multiplexer that listens at a place. Raises PlaceError."""
     where = endpoint(place)
     if isinstance(where, UnixSocket):
         return Path(f"{where.path}.control")
@@ -49,7 +50,8 @@ def control_path(place: str) -> Path:
 
 
 def own_folder() -> Path:
-    """A folder of this user's, for sockets. PlaceError where another user has one of the name."""
+    """A folder of this user for sockets. Raises PlaceError if the folder belongs to another
+    user."""
     runtime = os.environ.get("XDG_RUNTIME_DIR")
     folder = Path(runtime) / "xqs" if runtime else Path(
         tempfile.gettempdir()) / f"xqs-{os.getuid()}"
@@ -64,17 +66,17 @@ def own_folder() -> Path:
 @asynccontextmanager
 async def listening(place: str, actions: Mapping[str, Action],
                     note: Callable[[str], None]) -> AsyncIterator[None]:
-    """While a multiplexer that listens at a place can be asked; where it can't, that is noted, and
-    it serves all the same."""
+    """A context in which the multiplexer at a place answers requests. If its socket can't be made,
+    a message says so, and the multiplexer serves without it."""
     try:
         listener = listen_unix(str(control_path(place)))
     except (PlaceError, OSError) as error:
-        note(f"it can't be asked how it does: {error}")
+        note(f"it can't be asked for its status: {error}")
         yield
         return
 
     async def serve(reader: asyncio.StreamReader, writer: asyncio.StreamWriter) -> None:
-        # (asyncio says so on standard error where it is cancelled at the end)
+        # (asyncio reports that on standard error if it is cancelled at the end)
         with suppress(asyncio.CancelledError):
             await _serve(actions, reader, writer)
 
@@ -110,9 +112,9 @@ async def _serve(actions: Mapping[str, Action], reader: asyncio.StreamReader,
 
 
 def ask(place: str, request: str, seconds: float | None = SECONDS) -> Iterator[str]:
-    """Asks the multiplexer at a place; the lines that it says.
+    """Sends a request to the multiplexer at a place. Returns the lines of its answer.
 
-    NotRunning where there is none, Refused, and TimeoutError where nothing comes in time.
+    Raises NotRunning if there is none, Refused, and TimeoutError if no answer comes in time.
     """
     path = control_path(place)
     with socket.socket(socket.AF_UNIX) as connection:
@@ -120,7 +122,7 @@ def ask(place: str, request: str, seconds: float | None = SECONDS) -> Iterator[s
         try:
             connection.connect(str(path))
         except OSError as error:
-            raise NotRunning(f"no multiplexer of this user's runs at {place} ({path}: "
+            raise NotRunning(f"no multiplexer of this user runs at {place} ({path}: "
                              f"{error.strerror})") from error
         connection.sendall(request.encode() + b"\n")
         with connection.makefile("r", encoding="utf-8", errors="replace") as answers:
@@ -135,7 +137,7 @@ def ask(place: str, request: str, seconds: float | None = SECONDS) -> Iterator[s
 
 
 def command_of(argument: str) -> list[str]:
-    """The words of a command that a request has as JSON. ValueError."""
+    """The words of a command in a request, from JSON. Raises ValueError."""
     words = json.loads(argument)
     if not isinstance(words, list) or not words or not all(isinstance(it, str) for it in words):
         raise ValueError("no command is given")

@@ -1,4 +1,4 @@
-"""Drops of several documents: by their addresses, or by a pattern after a question."""
+"""Drops of several documents: by addresses, or by a pattern after a question."""
 
 import sys
 from collections.abc import Callable, Sequence
@@ -9,14 +9,14 @@ from xqs.errors import Refused
 from xqs.folders import is_pattern, matching
 
 SHOWN = 5
-"""So many addresses stand in a question."""
+"""How many addresses a question names."""
 
 
 @dataclass(frozen=True)
 class Chosen:
-    """The addresses that words name, each once, and the patterns that no address matches.
+    """The addresses that the words name, each once, and the patterns without a match.
 
-    `is_by_pattern` says whether a pattern is among the words.
+    `is_by_pattern` says whether any word is a pattern.
     """
 
     addresses: Sequence[str]
@@ -25,7 +25,7 @@ class Chosen:
 
 
 def chosen(client: Client, words: Sequence[str]) -> Chosen:
-    """The documents that words name: addresses, and patterns such as `books/*`."""
+    """The documents that the words name: addresses, and patterns such as `books/*`."""
     patterns = [it for it in words if is_pattern(it)]
     known = client.list() if patterns else []
     named = {it: matching(known, it) if is_pattern(it) else [it] for it in words}
@@ -34,7 +34,7 @@ def chosen(client: Client, words: Sequence[str]) -> Chosen:
 
 
 def agreed(addresses: Sequence[str]) -> bool:
-    """Asks whether documents are to be dropped; ValueError where nobody can be asked."""
+    """Asks the user whether to drop documents. Raises ValueError if nobody can be asked."""
     count = len(addresses)
     first = ", ".join(addresses[:SHOWN])
     first += f", and {count - SHOWN:,} more" if count > SHOWN else ""
@@ -47,7 +47,7 @@ def agreed(addresses: Sequence[str]) -> bool:
 
 
 def drop_all(client: Client, addresses: Sequence[str], say: Callable[[str], None]) -> int:
-    """Drops documents, and says which can't be; gives how many were dropped."""
+    """Drops documents, and reports those that can't be dropped. Returns how many were dropped."""
     dropped = 0
     for address, future in [(it, client.drop_later(it)) for it in addresses]:
         try:

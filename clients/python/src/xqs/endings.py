@@ -1,8 +1,9 @@
-"""What becomes of requests under way when the stream to a server ends, and where it goes on.
+"""What happens to the requests under way when the stream to a server ends, and how the client goes
+on.
 
-The server answers one request after the other. Of those under way only the oldest one may have been
-carried out by a server that was started here; of those sent to a socket any may. What only reads
-is asked again where nothing is lost by that; a change never is.
+The server answers one request after another. A server that was started here may have carried out
+only the oldest of them; a server at a socket may have carried out any. A request that only reads is
+sent again if nothing is lost by that. A change is never sent again.
 """
 
 import time
@@ -19,17 +20,17 @@ from xqs.requests import SHOWN, F, Waiting
 from xqs.starting import is_on_file
 
 GRACE = 0.2
-"""So many seconds a server may be at a request that nobody awaits any more, before it is ended."""
+"""How many seconds a server may work on a request that nobody waits for, before it is ended."""
 RETRY_SECONDS = 5.0
-"""For how long a socket is tried again after its stream has ended under requests."""
+"""For how many seconds a socket is tried again after its stream ended during requests."""
 RETRY_DELAY = 0.1
 END_PATIENCE = 60.0
-"""So many seconds the end of a stream is awaited after the last request."""
+"""How many seconds to wait for the end of a stream after the last request."""
 ASK = "it may have been carried out, or not: ask for the document before you send it again"
 
 
 def retry_delays() -> Iterator[float]:
-    """The seconds to wait before each try of a socket, up to the end of the tries."""
+    """The seconds to wait before each try of a socket, until the tries end."""
     yield 0.0
     yield RETRY_DELAY / 4
     end = time.monotonic() + RETRY_SECONDS
@@ -41,8 +42,8 @@ class Cause(Enum):
     """Why a stream ended."""
 
     ITSELF = "the stream ended"
-    OVERDUE = "the server was too long at a request"
-    ABANDONED = "nobody awaits the reply any more"
+    OVERDUE = "the server took too long for a request"
+    ABANDONED = "nobody waits for the reply any more"
     CLOSED = "the connection was closed"
 
 
@@ -55,37 +56,37 @@ class Origin:
 
     @property
     def is_started(self) -> bool:
-        """Whether the server is one that is started here, and so can be ended."""
+        """Whether the server is started here, and so can be ended."""
         return isinstance(self.place, Command)
 
     @property
     def keeps(self) -> bool:
-        """Whether a server that is started here is said to have its documents in a file."""
+        """Whether a server that is started here has its documents in a file, by its command."""
         return isinstance(self.place, Command) and is_on_file(self.place.words)
 
 
 @dataclass
 class Ended(Generic[F]):
-    """What becomes of the requests: those to be sent `again`, and those that `failed`."""
+    """What happens to the requests: those to send `again`, and those that `failed`."""
 
     again: list[Waiting[F]]
     failed: list[tuple[Waiting[F], XqError]]
 
     def settle(self) -> None:
-        """Tells those that failed."""
+        """Settles the failed requests with their errors."""
         for waiting, error in self.failed:
             waiting.fail(error)
 
     def fail_all(self, why: str) -> None:
-        """Has those fail that were to be sent again."""
+        """Makes the requests fail that were to be sent again."""
         self.failed += [(it, _closed(it, why)) for it in self.again]
         self.again = []
 
 
 def after_end(cause: Cause, why: str, origin: Origin | None, waiting: Sequence[Waiting[F]],
               missing: set[str]) -> Ended[F]:
-    """What becomes of the requests that waited, oldest first; `missing` are addresses of documents
-    that the next server doesn't have any more."""
+    """What happens to the waiting requests, oldest first. `missing` are the addresses of documents
+    that the next server no longer has."""
     if origin is None or cause is Cause.CLOSED or (cause is Cause.ITSELF and origin.is_started):
         return Ended([], [(it, _closed(it, why)) for it in waiting])
     result: Ended[F] = Ended([], [])
@@ -101,7 +102,7 @@ def after_end(cause: Cause, why: str, origin: Origin | None, waiting: Sequence[W
 
 def _fate(cause: Cause, is_front: bool, origin: Origin, waiting: Waiting[F],
           missing: set[str]) -> XqError | None:
-    """The error by which a request fails; None where it may be sent again, or nobody awaits it."""
+    """The error of a request; None if it may be sent again, or if nobody waits for it."""
     shown = waiting.request.shown[:SHOWN]
     if is_front and cause is Cause.OVERDUE:
         return TimedOut(f"the request {told(waiting, missing)} (it was: {shown})")
@@ -120,7 +121,7 @@ def _fate(cause: Cause, is_front: bool, origin: Origin, waiting: Waiting[F],
 
 
 def told(waiting: Waiting[F], missing: set[str]) -> str:
-    """What is said of a request for which a server was ended."""
+    """The message about a request whose server was ended."""
     said = overdue(waiting.seconds or 0) + "; the server was ended, and is started again"
     if missing:
         return f"{said}; {lost(missing)}"
@@ -128,9 +129,9 @@ def told(waiting: Waiting[F], missing: set[str]) -> str:
 
 
 def gone(missing: set[str]) -> str:
-    """What is said of documents that a server at a socket doesn't have after a break."""
-    return ("the stream ended, and at its other end documents that were stored here are there no "
-            f"more: {named(missing)}")
+    """The message about documents that a server at a socket no longer has after a break."""
+    return ("the stream ended, and the server no longer has documents that were stored here: "
+            f"{named(missing)}")
 
 
 def _closed(waiting: Waiting[F], why: str) -> Closed:
@@ -142,7 +143,8 @@ def _closed(waiting: Waiting[F], why: str) -> Closed:
 
 
 def may_end(origin: Origin | None, is_closing: bool, stored: bool, has_changes: bool) -> bool:
-    """Whether a stream may be ended for a request that nobody awaits: where nothing is lost by it.
+    """Whether a stream may be ended because of a request that nobody waits for: only if nothing is
+    lost by that.
 
     `stored` says that documents were stored, `has_changes` that a change is under way.
     """

@@ -1,4 +1,4 @@
-"""Where a server is: a command to start, a Unix socket, or a port of loopback."""
+"""Where a server is: a command to start, a Unix socket, or a loopback port."""
 
 import os
 import shlex
@@ -9,7 +9,7 @@ from typing import TypeAlias
 from xqs.errors import NoPlace
 
 LOOPBACK = ("127.0.0.1", "::1", "localhost")
-"""The hosts that a connection is made to, or taken from."""
+"""The hosts that may be connected to or listened at."""
 
 
 @dataclass(frozen=True)
@@ -35,7 +35,7 @@ class LoopbackPort:
 
 @dataclass(frozen=True)
 class Command:
-    """A program that is started, with its words; frames go to its standard input."""
+    """A program to start, with its words; frames go to its standard input."""
 
     words: tuple[str, ...]
 
@@ -49,10 +49,10 @@ Where: TypeAlias = Endpoint | str | os.PathLike[str] | Sequence[str | os.PathLik
 
 
 def endpoint(where: Where) -> Endpoint:
-    """Where a text or a list of words points to.
+    """The place that a text or a list of words names.
 
-    NoPlace (a ValueError) for a host that is not loopback, a port that is none, and a command that
-    is none.
+    Raises NoPlace (a ValueError) for a host that is not loopback, an invalid port, and an invalid
+    command.
     """
     if isinstance(where, UnixSocket | LoopbackPort | Command):
         return where
@@ -66,7 +66,7 @@ def _of_text(text: str) -> Endpoint:
     scheme, colon, rest = text.partition(":")
     if colon and scheme == "unix":
         if not rest:
-            raise NoPlace("unix: wants the path of a socket")
+            raise NoPlace("unix: needs the path of a socket")
         return UnixSocket(rest)
     if colon and scheme == "tcp":
         return _port(rest)
@@ -81,7 +81,7 @@ def _port(text: str) -> LoopbackPort:
     host, _, port = text.rpartition(":")
     host = host.strip("[]") or LOOPBACK[0]
     if host not in LOOPBACK:
-        raise NoPlace(f"not this machine: {host} (the protocol has no password and no cipher)")
+        raise NoPlace(f"not this machine: {host} (the protocol has no password and no encryption)")
     if not port.isascii() or not port.isdigit() or not 0 <= int(port) < 65536:
         raise NoPlace(f"not a port: {port!r}")
     return LoopbackPort(host, int(port))

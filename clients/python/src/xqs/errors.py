@@ -1,4 +1,4 @@
-"""What can go wrong, and each code of the server in a sentence."""
+"""The errors of this package, and a sentence for each code of the server."""
 
 SENTENCES = {
     # The text of a query, before it is evaluated.
@@ -13,9 +13,9 @@ SENTENCES = {
     "XPDY0050": "the root of the tree is not a document",
     "XPTY0004": "a value of a wrong type, or a wrong number of items",
     "XPTY0018": "a path gives nodes and atomic values together",
-    "XPTY0019": "what stands before a / is not nodes",
+    "XPTY0019": "the value before a / has items that are not nodes",
     "XPTY0020": "a step begins at an item that is not a node",
-    "XQTY0024": "an attribute stands after other content",
+    "XQTY0024": "an attribute comes after other content",
     "XQDY0025": "an element has two attributes of one name",
     "XQDY0026": "a processing instruction holds ?>",
     "XQDY0041": "the name of a processing instruction is not a name",
@@ -35,7 +35,7 @@ SENTENCES = {
     "FORG0004": "one-or-more() was given no item",
     "FORG0005": "exactly-one() was not given exactly one item",
     "FORG0006": "the value has no boolean value, or can't be summed or compared",
-    # The profile's own.
+    # The server's own.
     "prof:UTF8": "the query is not UTF-8",
     "prof:DEPTH": "the query nests deeper than 128",
     "prof:DIGITS": "a decimal literal has more than six digits after the point",
@@ -50,20 +50,21 @@ SENTENCES = {
     "prof:LONG": "the frame is over 1,048,832 bytes",
     "prof:ADDRESS": "the bytes are no address",
     "prof:ABSENT": "there is no document at that address",
-    "prof:NOTDOC": "what is to be stored is not exactly one document",
-    # What `xqs mux` refuses by itself; the last two come with status 2.
+    "prof:NOTDOC": "the query does not give exactly one document to store",
+    # Codes of `xqs mux` itself; the last two come with status 2.
     "xqs:READONLY": "nothing can be stored or dropped here; the multiplexer runs with --read-only",
     "xqs:SECONDS": "the query took longer than the multiplexer allows (--seconds N, 0: any time)",
-    "xqs:MEMORY": "the server ended for want of memory at the request (--memory SIZE allows more)",
+    "xqs:MEMORY": "the request took so much memory that the server ended (--memory SIZE allows "
+    "more)",
     "xqs:LINE": "too many stores and drops wait for the server, or one has waited for too long; "
     "nothing has changed, the request may be sent again",
-    "xqs:DIFFER": "servers gave different replies, so nothing is stored or dropped any more; who "
-    "runs the multiplexer has to look at what it said",
+    "xqs:DIFFER": "servers gave different replies, so nothing is stored or dropped any more; the "
+    "multiplexer's messages say where the replies are",
     # Status 2.
     "memory": "the server ran out of memory (--memory SIZE allows more); nothing has changed, the "
     "request may be sent again",
     "store": "the server's database failed; look at the disk, then send the request again, and "
-    "start the server anew where every request fails so",
+    "restart the server if every request fails like this",
 }
 """The meaning of each code of status 1 and each word of status 2."""
 
@@ -74,14 +75,14 @@ def sentence(code: str) -> str:
 
 
 class XqError(Exception):
-    """Base of all that this package raises by itself."""
+    """Base of all errors that this package defines."""
 
 
 class ReplyError(XqError):
     """A reply whose status is not 0; the documents are as before."""
 
     def __init__(self, code: str, request: str = "") -> None:
-        """`code` is the reply's text, `request` what was asked."""
+        """`code` is the reply's text, `request` describes the request."""
         super().__init__(f"{code}: {sentence(code)}")
         self.code = code
         self.request = request
@@ -92,7 +93,7 @@ class Refused(ReplyError):
 
 
 class Wanting(ReplyError):
-    """Status 2: memory or the store was wanting; the request may be sent again."""
+    """Status 2: memory ran out or the store failed; the request may be sent again."""
 
 
 class Closed(XqError):
@@ -100,12 +101,11 @@ class Closed(XqError):
 
 
 class Unknown(Closed):
-    """A store or a drop whose fate is unknown: ask for the document before it is sent again."""
+    """The outcome of a store or drop is unknown: ask for the document before you send it again."""
 
 
 class Lost(Closed):
-    """Documents that were in a server's memory are gone with it; the request was not carried
-    out."""
+    """Documents in a server's memory are lost with it; the request was not carried out."""
 
 
 class NotStarted(Closed):
@@ -113,22 +113,23 @@ class NotStarted(Closed):
 
 
 class Changed(XqError):
-    """A document was changed while it was read in pieces, which are of no one moment then."""
+    """A document changed while it was read in pieces, so the pieces are not from one state of
+    it."""
 
     def __init__(self, address: str) -> None:
         super().__init__(f"the document at {address} was changed while it was read; read it again")
 
 
 class TimedOut(XqError, TimeoutError):
-    """A request took longer than it may, or its reply was awaited for longer than was said."""
+    """A request took longer than allowed, or its caller stopped waiting."""
 
 
 class RefusedAsSlow(Refused, TimedOut):
-    """A multiplexer ended its server, which was too long at the request; nothing has changed."""
+    """A multiplexer ended its server, which took too long for the request; nothing has changed."""
 
 
 class NotConnected(XqError, OSError):
-    """There is no server where one was looked for, or it can't be started."""
+    """There is no server at the place, or it can't be started."""
 
 
 class NotAnAddress(XqError, ValueError):
@@ -136,11 +137,11 @@ class NotAnAddress(XqError, ValueError):
 
 
 class NoPlace(XqError, ValueError):
-    """A text that doesn't say where a server is."""
+    """A text that is no place of a server."""
 
 
 class NoText(XqError, ValueError):
-    """A text that has no UTF-8, as one with half a pair of surrogates."""
+    """A text that has no UTF-8, as one with an unpaired surrogate."""
 
 
 class Misspelt(XqError, ValueError):

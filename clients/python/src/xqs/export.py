@@ -21,13 +21,13 @@ from xqs.values import Event
 from xqs.xml_out import FLAT, KEEP, NotXml, write_document
 
 BUILT = "out"
-"""How the checkout's folders are called in which programs are built."""
+"""The names of the checkout's folders that programs are built in."""
 SUFFIX = {"xml": ".xml", "constructors": ".xq"}
 
 
 @contextmanager
 def written(path: Path) -> Iterator[TextIO]:
-    """A file that stands under its name once it is whole, and not at all where that fails."""
+    """A file that gets its name only once it is whole, and is removed if the writing fails."""
     path.parent.mkdir(parents=True, exist_ok=True)
     whole = path.with_name(f".{path.name[:200]}.{os.getpid()}.part")
     try:
@@ -50,7 +50,7 @@ class Exporter:
         force: bool,
         progress: Progress | None = None,
     ) -> None:
-        """`form` is `xml` or `constructors`; files that are there are replaced by `force` alone."""
+        """`form` is `xml` or `constructors`. Existing files are replaced only with `force`."""
         self._client, self._folder = client, folder
         self._progress = progress or silent()
         self._form, self._names, self._force = form, names, force
@@ -63,8 +63,8 @@ class Exporter:
         return len(self._taken)
 
     def export_all(self, prefix: str = "") -> dict[str, str]:
-        """Writes the documents whose address begins so, but temporary ones; those that can't be
-        written, with the reason of each."""
+        """Writes the documents whose addresses have a prefix, except temporary ones. Returns those
+        that can't be written, with the reason for each."""
         refused: dict[str, str] = {}
         known = self._client.list()
         wanted = [it for it in known if it.startswith(prefix) and not is_temporary(it)]
@@ -79,7 +79,7 @@ class Exporter:
         return refused
 
     def file_of(self, address: str, prefix: str) -> Path:
-        """The file of a document; NoPath where there can't be one."""
+        """The file of a document. Raises NoPath if there can't be one."""
         path = Path(path_of(address.removeprefix(prefix)))
         if not path.suffix:
             path = path.with_name(path.name + SUFFIX[self._form])
@@ -87,11 +87,11 @@ class Exporter:
         if file in self._taken:
             raise NoPath(f"another document has the file {path}")
         if os.path.lexists(file) and not self._force:
-            raise NoPath(f"the file {path} is there already; --force replaces it")
+            raise NoPath(f"the file {path} exists already; --force replaces it")
         return file
 
     def export(self, address: str, prefix: str = "") -> Path:
-        """Writes a document, and gives its file. NoPath, NotXml, OSError, ReplyError."""
+        """Writes a document and returns its file. Raises NoPath, NotXml, OSError, ReplyError."""
         file = self.file_of(address, prefix)
         with written(file) as out:
             write = self._counted(out.write) if self._progress.draws else out.write
@@ -116,7 +116,7 @@ class Exporter:
 
 
 def main(words: Sequence[str]) -> int:
-    """Carries out the command."""
+    """Runs the command."""
     given = _parser().parse_args(words)
     _check_folder(given.folder)
     with connected(given) as client:
@@ -131,7 +131,7 @@ def main(words: Sequence[str]) -> int:
 
 
 def _check_folder(folder: Path) -> None:
-    """ValueError for a folder of the build of this checkout, which is no place for documents."""
+    """Raises ValueError for a folder of this checkout's builds, where documents don't belong."""
     serve = checkout_server()
     if serve is None or not folder.resolve().is_relative_to(serve.parent):
         return
@@ -144,15 +144,15 @@ def _parser() -> argparse.ArgumentParser:
     words = argparse.ArgumentParser(
         prog="xqs export",
         parents=[connection_options()],
-        description="Writes documents below a folder, each by its address. Each is of one moment; "
-        "all of them together are, where nobody stores or drops meanwhile.",
+        description="Writes documents below a folder, each by its address. Each is a consistent "
+        "snapshot; all of them together are one only if nobody stores or drops meanwhile.",
         epilog="Status 0: all are written; 1: some are refused, and listed with the reason.",
     )
     words.add_argument("folder", type=Path)
-    words.add_argument("--prefix", default="", help="those alone whose address begins so; it is "
-                       "left out of the names of files")
+    words.add_argument("--prefix", default="", help="only documents with this prefix, which the "
+                       "names of files leave out")
     words.add_argument("--form", choices=list(SUFFIX), default="xml")
     words.add_argument("--names", choices=[KEEP, FLAT], default=KEEP,
                        help="flat turns p__a back into p:a, as 'load --names flat' made it")
-    words.add_argument("--force", action="store_true", help="replace files that are there")
+    words.add_argument("--force", action="store_true", help="replace existing files")
     return words

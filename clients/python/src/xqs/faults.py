@@ -4,7 +4,7 @@ from xqs.errors import XqError
 
 
 class PlacedFault(XqError, ValueError):
-    """A text that is refused: how it is called, and the place, counted from 1."""
+    """A refused text: its name in messages, and the place of the fault, counted from 1."""
 
     def __init__(self, source: str, line: int, column: int, why: str) -> None:
         super().__init__(f"{source}:{line}:{column}: {why}")
@@ -12,5 +12,5 @@ class PlacedFault(XqError, ValueError):
 
 
 def line_and_column(text: str, at: int) -> tuple[int, int]:
-    """The line and the column of a place in a text, from 1."""
+    """The line and column of a place in a text, from 1."""
     return text.count("\n", 0, at) + 1, at - text.rfind("\n", 0, at)

@@ -1,13 +1,12 @@
-"""Documents of any length, read as events. A read stores nothing, where that can be had.
+"""Documents of any length, read as events. A read stores nothing if that is possible.
 
-A document whose text fits a reply comes as one. A larger one is asked for in pieces (`ranges`), all
-of which have to be of one moment:
+A document whose text fits a reply comes as one. A larger one is read in pieces (`ranges`), which
+must all be from one state of the document:
 
-- A server that was started here nobody else can ask: it is read where it stands.
-- `xqs mux` and `xqs web` tell whether a document was changed meanwhile. The pieces are held back
-  until that is known, and asked for once more where it was.
-- Elsewhere, and where a document is changed again and again, a copy under a temporary address is
-  read.
+- A server that was started here has no other client, so the document can be read in place.
+- `xqs mux` and `xqs web` tell whether a document has changed meanwhile. The pieces are held back
+  until that is known, and read once more if it has changed.
+- Otherwise, or if a document keeps changing, a copy under a temporary address is read.
 """
 
 import pickle
@@ -27,18 +26,18 @@ from xqs.temporary import Temporary
 from xqs.values import Event, events
 
 TRIES = 3
-"""So often a document that is changed meanwhile is read in pieces, before a copy is."""
+"""How many times a document that changes meanwhile is read in pieces before a copy is read."""
 HELD = 32_000_000
-"""So many bytes of pieces are held back in memory, more on the disk."""
+"""How many bytes of pieces are held back in memory; more go to the disk."""
 
 
 def document_events(
     client: Client, address: str, progress: Progress | None = None
 ) -> Iterator[Event]:
-    """The events of a document, a long text as several; Refused as FODC0002 where there is none,
-    Changed where another thread of this client changes it meanwhile.
+    """The events of a document, with a long text as several events. Raises Refused with FODC0002 if
+    there is no document, and Changed if another thread of this client changes it meanwhile.
 
-    Where it comes in pieces, `progress` goes by its nodes.
+    `progress` counts the nodes of a document that comes in pieces.
     """
     for piece in _pieces(client, address, progress):
         if isinstance(piece.part, str):
@@ -51,10 +50,10 @@ def write_text(
     client: Client, address: str, write: Callable[[str], object], is_still: bool = False,
     progress: Progress | None = None,
 ) -> None:
-    """Writes the constructor of a document, as the server prints it, in pieces where it is long.
+    """Writes the constructor of a document, as the server prints it, in pieces if it is long.
 
-    With `is_still` nobody stores or drops meanwhile, and the document is read where it stands.
-    Errors and `progress` are those of `document_events`.
+    `is_still` says that nobody stores or drops meanwhile, so that the document can be read in
+    place. Errors and `progress` are as in `document_events`.
     """
     writer = ConstructorWriter(write)
     for piece in _pieces(client, address, progress, is_still):
@@ -67,7 +66,7 @@ def write_text(
 def _pieces(
     client: Client, address: str, progress: Progress | None, is_still: bool = False
 ) -> Iterator[Piece]:
-    """The pieces of a document; one where a reply has room for it."""
+    """The pieces of a document; one piece if it fits a reply."""
     found = first_look(client, address)
     if isinstance(found, str):
         yield Piece(found)
@@ -82,13 +81,13 @@ def _pieces(
 
 
 class _Told:
-    """What is told of the nodes of a document that comes in pieces."""
+    """Reports the nodes of a document that comes in pieces."""
 
     def __init__(self, progress: Progress, nodes: int) -> None:
         self._progress, self._nodes = progress, max(nodes, 1)
 
     def read(self, pieces: Iterable[Piece], begin: float = 0, end: float = 1) -> Iterator[Piece]:
-        """The pieces; with all of them, from one share of what is to be done to another is done."""
+        """Passes on all pieces, and moves the progress from one share of the work to another."""
         nodes = 0
         for piece in pieces:
             nodes = min(nodes + piece.nodes, self._nodes)
@@ -98,7 +97,7 @@ class _Told:
 
 
 def _watched(client: Client, address: str) -> Iterator[Piece]:
-    """The pieces of a document that no other client can change; Changed where this one did."""
+    """The pieces of a document that no other client can change. Raises Changed if this one did."""
     before = client.state_of(address)
     try:
         yield from Pieces(client, address)
@@ -138,7 +137,7 @@ class _Held:
         self._file.close()
 
     def holds_all(self, client: Client, address: str, before: str, told: _Told) -> bool:
-        """Reads a document; whether it is as it was before."""
+        """Reads a document. Returns whether it stayed the same."""
         try:
             for piece in told.read(Pieces(client, address), end=0.5):
                 pickle.dump(piece, self._file)
@@ -150,7 +149,7 @@ class _Held:
         return client.state_of(address) == before
 
     def pieces(self) -> Iterator[Piece]:
-        """All of them, in their order."""
+        """All pieces, in order."""
         self._file.seek(0)
         for _ in range(self._count):
             yield cast(Piece, pickle.load(self._file))

@@ -1,9 +1,9 @@
-"""All documents of a server copied to another one, while the first goes on to serve and to change.
+"""Copies all documents of one server to another, while the first goes on serving and changing.
 
-Each address is copied as it stands at some moment; what is written to it after that moment is noted
-and copied again. Once few are left the writes are held, and the last ones are copied: then both
-have the same documents. No request of a copy keeps the source for long, and nothing is written
-there: a document that is too large for a frame is read in parts, which are joined at the other end.
+Each address is copied in its state of some moment. What is written to it after that moment is noted
+and copied again. When few are left, writes wait and the last ones are copied: then both servers
+have the same documents. No request of a copy occupies the source for long, and nothing is written
+there: a document that is too large for a frame is read in parts, which are joined at the target.
 """
 
 import asyncio
@@ -19,25 +19,25 @@ from xqs.values import values
 from xqs.waiting import cancelled
 
 AT_ONCE = 6
-"""So many documents are copied side by side."""
+"""How many documents are copied at the same time."""
 FEW = 16
-"""So many documents may be left when the writes are held."""
+"""How many documents may be left when writes begin to wait."""
 ROUNDS = 12
-"""After so many rounds the writes are held, however many documents are left."""
+"""After how many rounds writes wait, however many documents are left."""
 NODES = 20_000
-"""A request of a copy asks for no more nodes than twice so many, as far as that is known."""
+"""A request of a copy asks for at most twice this number of nodes, as far as sizes are known."""
 MOST = MAX_REQUEST - 2_000
-"""The longest text that is stored by one request."""
+"""The longest text that one request stores."""
 SHORT = 2_000
-"""A text up to here stands where it belongs, and is no part of its own."""
+"""A text up to this length stays in its element; a longer one is a part of its own."""
 PIECE = 200_000
-"""So many characters of a long text are a part; each takes five bytes at most."""
+"""How many characters of a long text make a part; each takes five bytes at most."""
 
 Ask = Callable[[bytes], Awaitable[bytes]]
 
 
 class CannotFill(XqError):
-    """The documents can't be copied, and why."""
+    """The documents can't be copied; the message says why."""
 
 
 class CannotHold(CannotFill):
@@ -45,7 +45,7 @@ class CannotHold(CannotFill):
 
 
 class _Changed(Exception):
-    """The document was changed while it was read in parts."""
+    """The document changed while it was read in parts."""
 
 
 def _query(text: str) -> bytes:
@@ -57,8 +57,8 @@ def _store(address: bytes, text: bytes) -> bytes:
 
 
 class Filling:
-    """A copy of all documents of the server that `source` asks to the one that `target` asks, which
-    has none. Who writes to the source has to tell `changed`."""
+    """Copies all documents of the server that `source` asks to the one that `target` asks, which
+    has none. The code that writes to the source must call `changed`."""
 
     def __init__(self, source: Ask, target: Ask) -> None:
         self._source, self._ask = source, target
@@ -66,11 +66,11 @@ class Filling:
         self.count = 0
 
     def changed(self, address: bytes) -> None:
-        """A write to the address stands in the source's line."""
+        """Notes that a write to the address is in the source's queue."""
         self.left.add(address)
 
     async def copy_most(self) -> None:
-        """Copies all, and what is changed meanwhile, until little is left.
+        """Copies all documents, and again those that change meanwhile, until few are left.
 
         Raises ServerEnded and CannotFill.
         """
@@ -82,7 +82,7 @@ class Filling:
                 return
 
     async def finish(self) -> None:
-        """Copies what is left, while no client writes; nothing is left as this returns.
+        """Copies what is left, while no client writes. Nothing is left when this returns.
 
         Raises ServerEnded and CannotFill.
         """
@@ -91,10 +91,10 @@ class Filling:
                 await self._round()
             theirs, ours = await asyncio.gather(
                 self._addresses(self._source), self._addresses(self._ask))
-            if self.left:  # A write was found to be carried out that nobody knew of.
+            if self.left:  # A write that was in doubt turned out to be carried out.
                 continue
             if theirs != ours:
-                raise CannotFill(f"{len(ours)} addresses came of {len(theirs)}")
+                raise CannotFill(f"{len(ours)} addresses arrived of {len(theirs)}")
             self.count = len(ours)
             return
 
@@ -105,7 +105,7 @@ class Filling:
         return [str(it).encode() for it in values(reply[1:].decode())]
 
     async def _round(self) -> None:
-        """Copies what was left as it began."""
+        """Copies what was left when it began."""
         wanted = iter(sorted(self.left))
         works = [asyncio.create_task(self._copy_each(wanted)) for _ in range(AT_ONCE)]
         try:
@@ -134,13 +134,13 @@ class Filling:
             raise CannotFill(f"{name} can't be read ({text.decode()})")
 
     async def _drop(self, address: bytes) -> None:
-        """Has the other server drop a document that it may have."""
+        """Makes the target drop a document that it may have."""
         reply = await self._ask(Kind.DROP + address)
         if reply[0] == Status.WANTING:
             raise CannotHold(f"it can't drop a document ({reply[1:].decode()})")
 
     async def _copy_parts(self, address: bytes) -> None:
-        """Copies a large document; it is left for another time where it is changed meanwhile."""
+        """Copies a large document; leaves it for later if it changes meanwhile."""
         names = Temporary()
         parts = _Parts(self._read, self._keep, names.next, lambda: address in self.left)
         path = f'doc("{address.decode()}")'
@@ -155,19 +155,19 @@ class Filling:
                 await self._drop(part.encode())
 
     async def _check(self, address: bytes, path: str) -> None:
-        """That a joined document has as many nodes as the one that was read."""
+        """Checks that a joined document has as many nodes as the one that was read."""
         text = f"let $d := {path} return (count($d//node()), count($d//@*))"
         theirs, ours = await asyncio.gather(self._source(_query(text)),
                                             self._ask(_query(text)))
         if theirs != ours and address not in self.left:
-            raise CannotFill(f"{path} has {ours[1:].decode()} nodes and attributes, where there "
-                             f"are {theirs[1:].decode()}")
+            raise CannotFill(f"{path} has {ours[1:].decode()} nodes and attributes, not "
+                             f"{theirs[1:].decode()}")
 
     async def _read(self, text: str) -> bytes | None:
         return await _value_of(self._source, text)
 
     async def _keep(self, payload: bytes) -> None:
-        """Has the other server store a document."""
+        """Makes the target store a document."""
         reply = await self._ask(payload)
         if reply[0] == Status.WANTING:
             raise CannotHold(f"it can't hold the documents ({reply[1:].decode()})")
@@ -176,7 +176,7 @@ class Filling:
 
 
 async def _value_of(ask: Ask, text: str) -> bytes | None:
-    """The text of a value; None where it would be too long."""
+    """The text of a value; None if it would be too long."""
     reply = await ask(_query(text))
     if reply[0] == Status.DONE:
         return reply[1:]
@@ -188,8 +188,9 @@ async def _value_of(ask: Ask, text: str) -> bytes | None:
 
 
 async def fingerprint(ask: Ask, address: bytes) -> bytes:
-    """What two servers give alike if, and but for a clash of SHA-256 only if, they have the same
-    document at an address, or none. Nobody may write meanwhile.
+    """A digest of the document at an address, or of its absence. Two servers have the same digest
+    exactly if they have the same document, except for a SHA-256 collision. Nobody may write
+    meanwhile.
 
     Raises ServerEnded and CannotFill.
     """
@@ -213,10 +214,10 @@ async def fingerprint(ask: Ask, address: bytes) -> bytes:
 
 
 class _Parts:
-    """Reads a large document in parts, and gives the query that joins them elsewhere.
+    """Reads a large document in parts, and returns the query that joins them at the target.
 
-    `read` asks for a value, `keep` stores a part at an address that `name` gives, `is_changed` says
-    that it is all for nothing.
+    `read` asks for a value, `keep` stores a part at an address that `name` makes, and `is_changed`
+    says that the work is in vain.
     """
 
     def __init__(self, read: Callable[[str], Awaitable[bytes | None]],
@@ -225,7 +226,7 @@ class _Parts:
         self._read, self._keep, self._name, self._is_changed = read, keep, name, is_changed
 
     async def node(self, path: str) -> str:
-        """The query that gives a copy of one node."""
+        """The query that makes a copy of one node."""
         kind, name = await self._head(path)
         if kind == "document":
             return f"document {{{await self._all(f'{path}/node()')}}}"
@@ -238,7 +239,7 @@ class _Parts:
         return f'{kind} {name + " " if name else ""}{{string-join(({pieces}), "")}}'
 
     async def _head(self, path: str) -> tuple[str, str]:
-        """The kind of a node as its constructor names it, and its name."""
+        """The kind of a node, as its constructor names it, and its name."""
         kinds = ("document-node", "element", "text", "comment", "processing-instruction")
         asked = ", ".join(f"exists($n/self::{kind}())" for kind in kinds)
         *found, name = values((await self._value(f"let $n := {path} return ({asked}, name($n))"
@@ -258,7 +259,7 @@ class _Parts:
         return int(await self._value(text))
 
     async def _all(self, path: str) -> str:
-        """What gives all nodes of a path, by ranges that fit a frame."""
+        """Queries for all nodes of a path, by ranges that fit a frame."""
         count = await self._number(f"count({path})")
         nodes = await self._number(f"count({path}/descendant-or-self::node())")
         found: list[str] = []
@@ -278,7 +279,7 @@ class _Parts:
         return ", ".join(found)
 
     async def _range(self, path: str, first: int, last: int) -> bytes | None:
-        """The text of some nodes; None where there is too much of it."""
+        """The text of some nodes; None if it is too long."""
         if self._is_changed():
             raise _Changed
         some = f"{path}[position() >= {first} and position() <= {last}]"
@@ -295,7 +296,7 @@ class _Parts:
         return f'doc("{address}")/*/{"@*" if path.endswith("/@*") else "node()"}'
 
     async def _pieces(self, path: str) -> list[str]:
-        """The addresses of the parts that have the pieces of a long value."""
+        """The addresses of the parts with the pieces of a long value."""
         length = await self._number(f"string-length(string({path}))")
         found: list[str] = []
         for first in range(1, length + 1, PIECE):

@@ -1,16 +1,17 @@
 """Folders of documents: addresses by prefix or by pattern, and queries over a folder.
 
-The server's `collection()` has all documents. Here a query may ask for those of a folder:
+The server's `collection()` has all documents. With this module a query can ask for those of a
+folder:
 
     from xqs.folders import in_folders
 
-    text = in_folders(client, 'collection("books")//title')      # those of one folder
-    text = in_folders(client, "count(collection())", "books")    # of this one, where none is named
+    text = in_folders(client, 'collection("books")//title')      # of the folder in the text
+    text = in_folders(client, "count(collection())", "books")    # of this folder
     client.query(text)
 
-A folder has the document at its own address and those below it: `books` has `books/a.xml`, and not
-`books2/a.xml`. The addresses are those of the moment; a document that is dropped before the query
-is carried out is left out.
+A folder has the document at its own address and those below it: `books` has `books/a.xml`, but not
+`books2/a.xml`. The addresses are listed at once. A document that is dropped before the query runs
+is left out.
 """
 
 from collections.abc import Callable, Iterable, Iterator, Sequence
@@ -30,11 +31,12 @@ _NAMES = ("collection", "fn:collection")
 _NO_CALL = ("$", "::", "@", "=>")
 _PATTERN = frozenset("*?[")
 _ROOM = MAX_REQUEST - 20_000
-"""The addresses of a query's folders have so many bytes at most, more or less."""
+"""About how many bytes the addresses of a query's folders may take."""
 
 
 class FolderFault(XqError, ValueError):
-    """A query for which no folder can be put in; `at` is the place in its text, from 0."""
+    """A query that the documents of a folder can't be put into; `at` is the place in its text, from
+    0."""
 
     def __init__(self, text: str, at: int, why: str) -> None:
         line, column = line_and_column(text, at)
@@ -43,25 +45,28 @@ class FolderFault(XqError, ValueError):
 
 
 def is_pattern(word: str) -> bool:
-    """Whether a word stands for several addresses: `*` for any characters, slashes too, `?` for
-    one, `[ab]` for one of these. No address has such characters."""
+    """Whether a word is a pattern for several addresses: `*` for any characters, slashes too, `?`
+    for one, `[ab]` for one of these. No address has these characters."""
     return not _PATTERN.isdisjoint(word)
 
 
 def matching(addresses: Iterable[str], pattern: str) -> list[str]:
-    """The addresses that match a pattern, but those of parts where it doesn't begin as they do."""
+    """The addresses that match a pattern. Temporary ones match only if the pattern begins as they
+    do."""
     return _lasting((it for it in addresses if fnmatchcase(it, pattern)), pattern)
 
 
 def named_by(addresses: Iterable[str], word: str) -> list[str]:
-    """The addresses that a word of a list names: those that match a pattern, or begin so."""
+    """The addresses that a word of a list names: those that match the pattern, or have the
+    prefix."""
     if is_pattern(word):
         return matching(addresses, word)
     return [it for it in addresses if it.startswith(word)]
 
 
 def below(addresses: Iterable[str], folder: str) -> list[str]:
-    """The addresses of a folder: its own, and those below it; of an empty name all but parts."""
+    """The addresses of a folder: its own, and those below it. An empty name gives all but temporary
+    ones."""
     start = folder if not folder or folder.endswith("/") else folder + "/"
     return _lasting((it for it in addresses if it == folder or it.startswith(start)), folder)
 
@@ -71,7 +76,7 @@ def _lasting(addresses: Iterable[str], asked: str) -> list[str]:
 
 
 def collection(addresses: Sequence[str]) -> str:
-    """An expression that gives the documents at the addresses that have one still."""
+    """An expression for the documents at those of the addresses that still have one."""
     if not addresses:
         return "()"
     start = _common_start(addresses)
@@ -91,17 +96,17 @@ def _common_length(one: str, other: str) -> int:
 
 
 def in_folders(client: Client, text: str, folder: str | None = None) -> str:
-    """The query with the documents of folders: of the one that is named in each
-    `collection("NAME")`, and of `folder`, where it is given, in each `collection()`.
+    """The query with the documents of folders in place of each `collection("NAME")`, and of
+    `folder`, if it is given, in place of each `collection()`.
 
-    FolderFault where the name is no string that is written out, where a folder has too many
-    documents for a query, and where `folder` is given and nothing asks for it.
+    Raises FolderFault if a name is no string literal, if a folder has too many documents for a
+    query, or if `folder` is given but the query has no `collection()`.
     """
     return with_folders(text, folder, client.list).text
 
 
 def may_ask_for_folders(text: str, folder: str | None = None) -> bool:
-    """Whether addresses may be wanted to put folders into the query, told at once."""
+    """Whether the query may need addresses; a quick look at its text."""
     return folder is not None or "collection" in text
 
 
@@ -115,7 +120,8 @@ class _Call:
 
 
 def with_folders(text: str, folder: str | None, addresses: Callable[[], list[str]]) -> Rewritten:
-    """As `in_folders`, with the places; `addresses` is called where they are wanted."""
+    """Like `in_folders`, and gives the places too. `addresses` is called only if they are
+    needed."""
     if not may_ask_for_folders(text, folder):
         return Rewritten(text)
     calls = [it for it in _calls(text) if it.folder is not None or folder is not None]

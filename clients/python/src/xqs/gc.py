@@ -12,7 +12,8 @@ HOUR = 3600
 
 
 def collect(client: Client, older_than: float, is_dry: bool = False) -> list[str]:
-    """Drops the temporary documents of series that began that many seconds ago; their addresses."""
+    """Drops the temporary documents of series that began at least `older_than` seconds ago. Returns
+    their addresses."""
     now = time.time()
     found = [it for it in client.list() if is_temporary(it)]
     left = [it for it in found if (age(it, now) or 0) >= older_than]
@@ -22,7 +23,7 @@ def collect(client: Client, older_than: float, is_dry: bool = False) -> list[str
 
 
 def main(words: Sequence[str]) -> int:
-    """Carries out the command."""
+    """Runs the command."""
     parser = argparse.ArgumentParser(
         prog="xqs gc",
         parents=[connection_options()],
@@ -30,10 +31,10 @@ def main(words: Sequence[str]) -> int:
     )
     parser.add_argument(
         "--older", type=float, default=HOUR, metavar="SECONDS",
-        help="those that were begun so long ago (default 3600, so as to leave those of commands "
-        "that run now)",
+        help="those that were begun at least this long ago (default 3600, which spares those of "
+        "running commands)",
     )
-    parser.add_argument("--all", action="store_true", help="all, of whatever age")
+    parser.add_argument("--all", action="store_true", help="all, of any age")
     parser.add_argument("--dry-run", action="store_true", help="print them, and drop nothing")
     given = parser.parse_args(words)
     with connected(given) as client:

@@ -1,8 +1,8 @@
-"""Which tokens a text of the language may go on with: a recognizer of the grammar's table.
+"""Which tokens may continue a text of the language: a recognizer for the grammar's table.
 
-Earley's way, which takes any grammar: after each token it holds all productions that what stands
-before may be a part of, so that the first token that fits in none is the place of the fault, and
-the tokens that would have fit are known.
+It uses Earley's algorithm, which takes any grammar. After each token it holds all productions that
+the text so far may be part of. So the first token that fits none of them is the place of the fault,
+and the tokens that would fit are known.
 """
 
 import re
@@ -15,18 +15,18 @@ from typing import TypeAlias
 from xqs.language_tables import GRAMMAR
 
 Terminal: TypeAlias = str
-"""A kind of token, as NAME; or in quotes a word or a symbol that stands for itself."""
+"""A kind of token, as NAME; or in quotes a word or symbol that stands for itself."""
 SECONDS = 2.0
-"""For so long a list of tokens is read, at most, by the clock of the processor."""
+"""The longest time for reading a list of tokens, in processor seconds."""
 _PIECE = re.compile(r'"[^"]*"|\w+|[()|?*]')
 _Item: TypeAlias = tuple[int, int, int]
-"""A production, how much of it stands there, and before which token it began."""
+"""A production, how much of it has been read, and at which token it began."""
 
 
 @dataclass(frozen=True)
 class Reading:
     """How far a list of tokens can be read: `count` of them; which kinds may follow there; and
-    whether these are a whole text."""
+    whether they are a whole text."""
 
     count: int
     expected: frozenset[Terminal]
@@ -37,7 +37,8 @@ class Grammar:
     """The productions of a table, without its brackets and signs of repetition."""
 
     def __init__(self, table: str) -> None:
-        """`table` has a production a line, which may go on with an indent, the whole text first."""
+        """`table` has one production per line, which may continue on indented lines; the first one
+        is the whole text."""
         self.heads: list[str] = []
         self.bodies: list[tuple[str, ...]] = []
         self.of: dict[str, list[int]] = {}
@@ -50,7 +51,7 @@ class Grammar:
 
     @cached_property
     def empty(self) -> frozenset[str]:
-        """What may stand for no token at all."""
+        """The symbols that may match no token at all."""
         found: set[str] = set()
         while True:
             more = {head for head, body in zip(self.heads, self.bodies, strict=True)
@@ -97,7 +98,7 @@ class Grammar:
 
 
 class _Set:
-    """What may be under way after some tokens."""
+    """The items that may be under way after some tokens."""
 
     def __init__(self) -> None:
         self.items: list[_Item] = []
@@ -116,7 +117,7 @@ class Reader:
     """Reads one list of tokens."""
 
     def __init__(self, grammar: Grammar, kinds: Sequence[Terminal] = ()) -> None:
-        """`kinds` are those of tokens that stand first."""
+        """`kinds` are those of the first tokens."""
         self._grammar = grammar
         self._sets = [_Set()]
         for number in grammar.of[grammar.start]:
@@ -137,7 +138,7 @@ class Reader:
                    for number, dot, begin in self._sets[-1].items)
 
     def take(self, kinds: frozenset[Terminal]) -> bool:
-        """Takes a token that is of these kinds; whether it fits."""
+        """Takes a token of these kinds. Returns whether it fits."""
         last, following = self._sets[-1], _Set()
         for kind in kinds:
             for number, dot, begin in last.waiting.get(kind, ()):
@@ -149,9 +150,9 @@ class Reader:
         return True
 
     def _close(self) -> None:
-        """Adds all that follows from what is in the last set."""
+        """Adds all that follows from the items of the last set."""
         here, bodies = self._sets[-1], self._grammar.bodies
-        for item in here.items:  # (which grows meanwhile)
+        for item in here.items:  # (which grows during the loop)
             number, dot, begin = item
             if dot == len(bodies[number]):
                 self._complete(here, self._grammar.heads[number], begin)
@@ -182,8 +183,8 @@ def language() -> Grammar:
 
 
 def read(tokens: Sequence[frozenset[Terminal]], seconds: float = SECONDS) -> Reading | None:
-    """How far the tokens can be read, each by the kinds that it is of; None where that takes more
-    than so many seconds of the processor."""
+    """How far the tokens can be read, each given by its kinds; None if that takes too many
+    processor seconds."""
     reader, end = Reader(language()), time.thread_time() + seconds
     for number, kinds in enumerate(tokens):
         if time.thread_time() > end:

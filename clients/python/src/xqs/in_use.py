@@ -1,4 +1,4 @@
-"""Why a server could not open its file: mostly since another program has it open."""
+"""Why a server could not open its file: usually because another program has it open."""
 
 import os
 import re
@@ -14,14 +14,15 @@ LOCKS = PROCESSES / "locks"
 _LOCK = re.compile(r" (?P<process>\d+) (?P<device>[0-9a-f]+:[0-9a-f]+):(?P<inode>\d+) ")
 UNSTARTED = "the server ended as it started"
 _SERVE = "serve"
-"""The command that serves a file in the background, among the words of a process."""
+"""The `xqs` command that serves a file in the background, as a word of a process's command."""
 SHOWN = 100
-"""So many characters of a command stand in a message."""
+"""How many characters of a command a message shows."""
 
 
 @dataclass(frozen=True)
 class Holder:
-    """A process that has a file open: its number and its words, none where they can't be read."""
+    """A process that has a file open: its number and its words, or no words if they can't be
+    read."""
 
     process: int
     words: tuple[str, ...]
@@ -32,7 +33,7 @@ class Holder:
 
 
 def words_of(process: int) -> tuple[str, ...]:
-    """The words of a process; none where they can't be read."""
+    """The words of a process; none if they can't be read."""
     try:
         text = (PROCESSES / str(process) / "cmdline").read_bytes()
     except OSError:
@@ -41,7 +42,7 @@ def words_of(process: int) -> tuple[str, ...]:
 
 
 def parent_of(process: int) -> int:
-    """The process that started one; 0 where that can't be told."""
+    """The parent of a process; 0 if unknown."""
     try:
         text = (PROCESSES / str(process) / "stat").read_text(encoding="utf-8", errors="replace")
     except OSError:
@@ -50,7 +51,7 @@ def parent_of(process: int) -> int:
 
 
 def holders(path: Path) -> list[Holder]:
-    """The processes that have the file open or locked, as far as this user may see that."""
+    """The processes that have the file open or locked, as far as this user can see them."""
     try:
         wanted = path.stat()
     except OSError:
@@ -70,7 +71,7 @@ def _with_open(wanted: os.stat_result) -> Iterator[int]:
 
 
 def _with_lock(wanted: os.stat_result) -> Iterator[int]:
-    """The processes of any user that have locked it."""
+    """The processes of any user that have it locked."""
     try:
         text = LOCKS.read_text(encoding="ascii")
     except OSError:
@@ -82,7 +83,8 @@ def _with_lock(wanted: os.stat_result) -> Iterator[int]:
 
 
 def starter_of(holder: Holder) -> Holder | None:
-    """Whoever started a server that holds a file, below a keeper; None where there is none."""
+    """The process above the keeper that started a server which holds a file; None if there is
+    none."""
     keeper = parent_of(holder.process)
     if str(KEEPER.name) not in " ".join(words_of(keeper)):
         return None
@@ -91,7 +93,7 @@ def starter_of(holder: Holder) -> Holder | None:
 
 
 def file_of(command: Sequence[str]) -> Path | None:
-    """The file that the words of a server's command name."""
+    """The file in the words of a server's command."""
     for number, word in enumerate(command):
         if word == "--file" and number + 1 < len(command):
             return Path(command[number + 1])
@@ -101,8 +103,7 @@ def file_of(command: Sequence[str]) -> Path | None:
 
 
 def why_not_opened(command: Sequence[str]) -> str:
-    """Why a server could not open the file of its command, and what to do; empty where that can't
-    be told."""
+    """Why a server could not open the file of its command, and what to do; empty if unknown."""
     path = file_of(command)
     if path is None:
         return ""
@@ -126,14 +127,14 @@ def why_not_opened(command: Sequence[str]) -> str:
 
 
 def _advice(path: Path, served: Sequence[Path | None]) -> str:
-    """What to do about those who hold a file, of which some serve it under these names."""
+    """What to do about the processes that hold a file, some of which serve it under these names."""
     if served:
-        return ("`xqs serve` opens or ends it at this moment, so ask again, or has it by another "
-                f"name; `xqs stop {served[0] or path}` ends it")
-    return f"end that, or ask through it (`xqs serve {path}` serves a file to many)"
+        return ("`xqs serve` is opening or closing it, so try again, or serves it under another "
+                f"name; `xqs stop {served[0] or path}` ends that")
+    return f"end that process, or share the file (`xqs serve {path}` serves it to many clients)"
 
 
 def ended_at_start(command: Sequence[str], how: str) -> str:
-    """What is said of a server that ended before its first reply; `how` is how it ended."""
+    """The message about a server that ended before its first reply; `how` says how it ended."""
     why = why_not_opened(command)
     return f"{UNSTARTED}: {how}" + (f"; {why}" if why else "")

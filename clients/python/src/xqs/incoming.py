@@ -1,6 +1,6 @@
-"""What a file gives to be stored: XML, a query, or constructors of any length.
+"""What a file gives to store: XML, a query, or constructors of any length.
 
-A file is judged as a whole before the first part of it is sent, where it can be read twice.
+A file that can be read twice is checked whole before its first part is sent.
 """
 
 import re
@@ -21,15 +21,15 @@ from xqs.xml_judge import judge_xml
 from xqs.xml_names import Names
 
 CHUNK, LONGEST_CHUNK = 1 << 16, 1 << 24
-"""So many bytes of a file are read at once, at least and at most."""
+"""The least and the most bytes of a file that are read at once."""
 MAX_QUERY = MAX_REQUEST - MAX_ADDRESS - 6
-"""A store has room for so many bytes of a query, whatever its address."""
+"""The longest query that a store has room for, in bytes, whatever its address."""
 _XML = (b"<", b"\xff\xfe", b"\xfe\xff", b"\0<", b"\0\0\0<", b"\0\0\xfe\xff", b"\x4c\x6f\xa7\x94")
-"""How XML begins, in each encoding, after the byte order mark of UTF-8."""
+"""How XML begins in each encoding, after the byte order mark of UTF-8."""
 _MARK = b"\xef\xbb\xbf"
 _CONSTRUCTOR = re.compile(rb"document\s*\{")
 QUERY_ENDINGS = frozenset((".xq", ".xql", ".xqm", ".xqy", ".xquery"))
-"""How files of queries end."""
+"""The endings of files with queries."""
 
 
 class Incoming(Protocol):
@@ -39,10 +39,11 @@ class Incoming(Protocol):
 
     @property
     def nodes(self) -> int:
-        """How many nodes have been read; 0 of a query, whose nodes the server makes."""
+        """How many nodes have been read; 0 for a query, whose nodes the server makes."""
 
     def parts(self) -> Iterator[Part]:
-        """What has to be stored first, in this order; PlacedFault where the text is refused."""
+        """The documents to store first, in this order. Raises PlacedFault if the text is
+        refused."""
 
     def whole(self) -> str:
         """The text that makes the document, once the parts have been taken."""
@@ -51,8 +52,8 @@ class Incoming(Protocol):
 def chunks_of(file: BinaryIO) -> Iterator[bytes]:
     """The bytes of a file, piece by piece.
 
-    Pieces grow with what was read: the parser looks at a comment or a tag that is not whole from
-    its beginning with each piece, and would take the square of its length over pieces of one size.
+    Pieces grow with the amount read so far: for each piece the parser scans an incomplete comment
+    or tag from its beginning, so pieces of one size would take quadratic time.
     """
     total = 0
     while piece := file.read(min(max(CHUNK, total // 4), LONGEST_CHUNK)):
@@ -61,7 +62,7 @@ def chunks_of(file: BinaryIO) -> Iterator[bytes]:
 
 
 class XmlDocument:
-    """A document of XML whose bytes come in any pieces."""
+    """A document of XML whose bytes come in pieces of any size."""
 
     def __init__(self, chunks: Iterable[bytes], reader: XmlReader) -> None:
         self._chunks, self._reader = chunks, reader
@@ -82,7 +83,7 @@ class XmlDocument:
 
 
 class QueryDocument:
-    """A query that gives the document, and fits a request."""
+    """A query that gives the document and fits a request."""
 
     nodes = read = 0
 
@@ -97,7 +98,7 @@ class QueryDocument:
 
 
 class PrintedDocument:
-    """A document whose events come one after the other, as of what the server has printed."""
+    """A document whose events come one after another, as those of what the server has printed."""
 
     def __init__(self, steps: Iterable[Event], temporary: Temporary) -> None:
         self._steps = steps
@@ -118,7 +119,8 @@ class PrintedDocument:
 
 
 class ConstructorDocument(PrintedDocument):
-    """A document of constructors, of any length; all is read before the first part is given."""
+    """A document of constructors, of any length; it is read whole before the first part is
+    given."""
 
     def __init__(self, reader: ConstructorReader, temporary: Temporary) -> None:
         super().__init__(reader, temporary)
@@ -141,7 +143,7 @@ class ConstructorDocument(PrintedDocument):
 def constructor_parts(document: DocumentText, steps: Iterable[Event]) -> Iterator[Part]:
     """The parts of a document of printed nodes.
 
-    NotADocument where they are no document, TooLarge where it has too many nodes or too deep ones.
+    Raises NotADocument if they are no document, TooLarge if it has too many nodes or levels.
     """
     rest = iter(steps)
     _expect(next(rest, None) == Open(NodeKind.DOCUMENT, ""))
@@ -168,11 +170,11 @@ def incoming(
     charset: str | None = None,
     by_name: bool = False,
 ) -> Incoming:
-    """The document that a file gives; PlacedFault where it is refused, as far as that is seen.
+    """The document in a file. Raises PlacedFault if it is refused, as far as that is known yet.
 
-    It is XML where it begins so, else a query; `by_name` it is a query where the ending of its name
-    says so, or where it begins as a constructor of a document. `source` is how messages call it,
-    and `charset` that of its transport.
+    It is XML if it begins like XML, else a query. With `by_name` it is also a query if the ending
+    of its name says so, or if it begins with a document constructor. `source` is its name in
+    messages, and `charset` that of its transport.
     """
     first = b""
     while not first.strip() and (piece := file.read(CHUNK)):
@@ -190,7 +192,8 @@ def incoming(
 
 
 def _is_query(first: bytes, constructors: bool) -> bool:
-    """Whether what begins so is a query; of `constructors` alone, one that is a document's."""
+    """Whether a text with this beginning is a query. With `constructors` only the beginning of a
+    document constructor counts."""
     text = first.removeprefix(_MARK).lstrip()
     if constructors:
         return bool(_CONSTRUCTOR.match(text))
@@ -215,4 +218,4 @@ def _decoded(data: bytes, source: str) -> str:
     except UnicodeDecodeError as error:
         before = data[: error.start].decode()
         place = line_and_column(before, len(before))
-        raise PlacedFault(source, *place, "these bytes are no utf-8") from None
+        raise PlacedFault(source, *place, "these bytes are not valid utf-8") from None

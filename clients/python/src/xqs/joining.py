@@ -1,4 +1,4 @@
-"""How a server that was started comes to the documents that the others hold."""
+"""How a new server gets the documents that the others hold."""
 
 import asyncio
 import time
@@ -16,7 +16,7 @@ BETWEEN_LOOKS = 0.05
 
 
 async def fill(servers: "ManyServers", replica: Replica) -> None:
-    """Gives a server the documents that another one holds, while that one serves."""
+    """Gives a server the documents of another one, while that one goes on serving."""
     replica.state = State.FILLING
     begin = time.monotonic()
     source = await _source(servers)
@@ -39,8 +39,8 @@ async def fill(servers: "ManyServers", replica: Replica) -> None:
 
 
 async def _source(servers: "ManyServers") -> Replica:
-    """A server that holds the documents, not the first one where another does. Raises ServerEnded
-    where the documents are gone."""
+    """A server that holds the documents, preferably not the first one. Raises ServerEnded if the
+    documents are lost."""
     while not (holding := servers.replicas.holding()):
         if not servers.replicas.on_file:
             raise ServerEnded("no other server is left")
@@ -49,8 +49,8 @@ async def _source(servers: "ManyServers") -> Replica:
 
 
 async def settle_doubt(servers: "ManyServers", first: Replica) -> None:
-    """Finds out whether the file has the write that nobody knows of, and gives it to the other
-    servers where it has. Raises ServerEnded and CannotFill."""
+    """Finds out whether the file has the write that is in doubt, and gives it to the other servers
+    if so. Raises ServerEnded and CannotFill."""
     while (doubtful := servers.replicas.doubtful) is not None:
         others = servers.replicas.holding(first)
         address = address_of(doubtful.payload)

@@ -1,7 +1,7 @@
-"""What a load has done so far, kept in a file, so that it goes on after a kill.
+"""What a load has done so far, in a file, so that it can resume after a kill.
 
-The file has one JSON value a line: first what is loaded and how, then each file with its size, its
-time and what became of it. A line that was cut, as by a kill, counts for nothing.
+The file has one JSON value per line: first what is loaded and how, then each file with its size,
+its time and its outcome. A line that was cut, as by a kill, is ignored.
 """
 
 import hashlib
@@ -12,17 +12,16 @@ from typing import Any, TextIO
 
 
 def default_place(key: str) -> Path:
-    """Where the journal of a load lies that has this key, where nothing else is said: in the
-    user's folder for states of programs."""
+    """The journal file of a load with this key, by default: in the user's state folder."""
     state = os.environ.get("XDG_STATE_HOME") or Path.home() / ".local" / "state"
     return Path(state) / "xqs" / f"load-{hashlib.sha256(key.encode()).hexdigest()[:16]}.jsonl"
 
 
 class Journal:
-    """A journal in a file. Lines are there for a later run as soon as they are written."""
+    """A journal in a file. Each line is on the disk for a later run as soon as it is written."""
 
     def __init__(self, path: Path, head: dict[str, str], anew: bool = False) -> None:
-        """Goes on with the file where it has this head, else begins it anew. OSError."""
+        """Continues the file if it has this head, else begins it anew. Raises OSError."""
         self.path = path
         self._files: dict[str, dict[str, Any]] = {}
         self.temporary: list[str] = []
@@ -33,20 +32,20 @@ class Journal:
             self._write(head)
 
     def result(self, path: str, stat: os.stat_result) -> str | None:
-        """What became of a file that is still as it was; None where that is not known."""
+        """The outcome of a file that has not changed since; None if unknown."""
         entry = self._files.get(path)
         if entry and entry["size"] == stat.st_size and entry["time"] == stat.st_mtime_ns:
             return str(entry["result"])
         return None
 
     def add(self, path: str, stat: os.stat_result, result: str) -> None:
-        """Notes what became of a file: `stored`, or why it is refused."""
+        """Notes the outcome of a file: `stored`, or why it is refused."""
         self._write(
             {"path": path, "size": stat.st_size, "time": stat.st_mtime_ns, "result": result}
         )
 
     def add_temporary(self, start: str) -> None:
-        """Notes that there may be documents under addresses with that start."""
+        """Notes that documents may exist under addresses with this prefix."""
         self._write({"temporary": start})
 
     def close(self) -> None:
@@ -54,7 +53,7 @@ class Journal:
         self._file.close()
 
     def finish(self) -> None:
-        """Closes the file and takes it away: the load is done."""
+        """Closes the file and removes it: the load is done."""
         self._file.close()
         self.path.unlink(missing_ok=True)
 

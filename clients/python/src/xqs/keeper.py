@@ -1,10 +1,10 @@
-"""Runs a server that ends with whoever started it, however that ends. It runs as a program of its
-own, without the rest of the package: `keeper.py PARENT BYTES COMMAND [WORDS]`.
+"""Runs a server that ends with the process that started it, however that ends. It runs as a program
+of its own, without the rest of the package: `keeper.py PARENT BYTES COMMAND [WORDS]`.
 
-The keeper waits for two ends. Where the server ends, it ends with the same status. Where the parent
-ends, by whatever signal, it kills its process group: the server, and what a script in the server's
-place has started. Where the keeper itself is killed, the kernel kills the server. A parent is
-watched as a process, and not by one of its threads, which may end before it does.
+The keeper waits for two ends. When the server ends, it ends with the same status. When the parent
+ends, even by SIGKILL, it kills its process group: the server, and all that a script in the server's
+place has started. If the keeper itself is killed, the kernel kills the server. The keeper watches
+the parent process, not one of its threads, which may end earlier.
 """
 
 import os
@@ -17,25 +17,25 @@ from collections.abc import Sequence
 
 PR_SET_PDEATHSIG = 1
 CANNOT_RUN = 126
-"""The exit status where the command can't be run."""
+"""The exit status if the command can't be run."""
 SECONDS_BETWEEN_LOOKS = 0.1
 
 
 def run_server(keeper: int, memory: int, words: Sequence[str]) -> int:
-    """Becomes the server; gives an exit status where that can't be."""
+    """Becomes the server. Returns an exit status if that fails."""
     try:
         import ctypes
 
         ctypes.CDLL(None).prctl(PR_SET_PDEATHSIG, signal.SIGKILL)
     except (ImportError, OSError, AttributeError):
-        pass  # The keeper still ends the server, unless it is killed itself.
+        pass  # The keeper still ends the server, unless the keeper itself is killed.
     if os.getppid() != keeper:
         return CANNOT_RUN
     for number in (signal.SIGPIPE, signal.SIGXFSZ):
         signal.signal(number, signal.SIG_DFL)
     try:
         if memory:
-            # The soft limit alone, so that a script can lift it for what it builds.
+            # Only the soft limit, so that a script can lift it for what it builds.
             _, hard = resource.getrlimit(resource.RLIMIT_AS)
             resource.setrlimit(resource.RLIMIT_AS, (memory, hard))
         os.execvp(words[0], list(words))
@@ -45,7 +45,7 @@ def run_server(keeper: int, memory: int, words: Sequence[str]) -> int:
 
 
 def wait_for_either(parent: int, watched: int | None, server: int) -> int | None:
-    """The wait status of the server once it has ended; None where the parent ends first."""
+    """The wait status of the server once it has ended; None if the parent ends first."""
     poller = select.poll()
     if watched is not None:
         poller.register(os.pidfd_open(server), select.POLLIN)
@@ -63,7 +63,7 @@ def wait_for_either(parent: int, watched: int | None, server: int) -> int | None
 
 
 def watch(process: int) -> int | None:
-    """What becomes readable as the process ends; None where the system doesn't have that."""
+    """A file descriptor that becomes readable when the process ends; None if unsupported."""
     try:
         return os.pidfd_open(process)
     except (AttributeError, OSError):
@@ -71,10 +71,8 @@ def watch(process: int) -> int | None:
 
 
 def end_as(status: int) -> int:
-    """The exit status of a server that ended with this wait status; by its signal, if it was one.
-
-    What the server started is ended, too.
-    """
+    """Ends what the server started, and returns the exit status for this wait status. If a signal
+    ended the server, ends by the same signal."""
     signal.signal(signal.SIGTERM, signal.SIG_IGN)
     os.killpg(0, signal.SIGTERM)
     code = os.waitstatus_to_exitcode(status)
@@ -88,7 +86,7 @@ def end_as(status: int) -> int:
 
 
 def main() -> int:
-    """Runs the command up to its end, or to that of the parent."""
+    """Runs the command until it or the parent ends."""
     parent, memory, words = int(sys.argv[1]), int(sys.argv[2]), sys.argv[3:]
     if signal.getsignal(signal.SIGINT) is signal.default_int_handler:
         signal.signal(signal.SIGINT, signal.SIG_DFL)

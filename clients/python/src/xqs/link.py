@@ -1,8 +1,8 @@
-"""Requests to a server, and their replies, over one stream after the other, for threads.
+"""Requests to a server and their replies, over one stream after another, for threads.
 
-Whoever asks sends the request; one thread reads the replies. It ends a server that is too long at
-a request, or at one that nobody awaits any more, and goes on with another one where nothing is lost
-by that (`endings` and `watch` have the rules).
+The caller's thread sends the request; one thread reads the replies. That thread ends a server that
+takes too long for a request, or works on one that nobody waits for, and goes on with another server
+if nothing is lost by that (`endings` and `watch` have the rules).
 """
 
 import threading
@@ -27,32 +27,33 @@ from xqs.watch import Watch
 
 
 class Link:
-    """A connection that outlasts its stream, where that can be."""
+    """A connection that survives the end of its stream if another one can be made."""
 
     def __init__(self, stream: Stream, origin: Origin | None) -> None:
-        """Without an origin there is no other stream after this one."""
+        """Without an origin no other stream follows this one."""
         self._origin = origin
         self.watch: Watch[TextFuture] = Watch(origin)
         self._in_flight = self.watch.in_flight
         self.changes = Changes()
-        """The changes that were asked for here, each noted before its frame is sent."""
+        """The changes that were requested here, each noted before its frame is sent."""
         self._turn = threading.RLock()
-        """Held by whoever sends, so that frames go out in order, and where the stream changes."""
+        """Held while a frame is sent, so that frames stay in order, and while the stream is
+        replaced."""
         self._status: int | None = None
         self._put(stream, [])
         self._begin(stream)
 
     @property
     def stream(self) -> Stream | None:
-        """The stream of the moment; None where it has ended."""
+        """The current stream; None if it has ended."""
         return self._stream
 
     def send(self, request: Request, seconds: float | None,
              deadline: float | None = None) -> TextFuture:
         """Sends a request; the future gives the text of its reply.
 
-        `seconds` is how long the server may be at it. This waits while the server takes nothing.
-        Closed where the stream has ended for good, TimedOut where nothing could be sent in time.
+        `seconds` is how long the server may take for it. Waits while the server takes nothing.
+        Raises Closed if the stream has ended for good, TimedOut if nothing could be sent in time.
         """
         future = TextFuture()
         future.add_done_callback(self._look_at)
@@ -69,13 +70,14 @@ class Link:
             future.cancel()
             raise _unsent(request) from None
         except OSError:
-            stream.kill()  # What becomes of the request is told by whoever reads.
+            stream.kill()  # The thread that reads says what happens to the request.
         finally:
             self._turn.release()
         return future
 
     def _ready(self, deadline: float | None) -> Stream:
-        """A stream to send by; of a socket another one, where it has ended. The turn is taken."""
+        """The stream to send by. At a socket it connects again if the stream has ended. The caller
+        holds the turn."""
         if self.watch.ended or self.watch.closing:
             raise Closed(self.watch.ended or "the connection was closed")
         if self._stream is None:
@@ -89,12 +91,12 @@ class Link:
         return self._stream
 
     def _opened(self, timeout: float | None = None) -> Stream:
-        """Another stream; Closed where there can be none."""
+        """Makes another stream. Raises Closed if that is impossible."""
         assert self._origin is not None
         try:
             return open_stream(self._origin.place, self._origin.bounds, timeout)
         except OSError as error:
-            raise Closed(f"the stream ended, and there is no other one: {error}") from error
+            raise Closed(f"the stream ended, and a new one can't be made: {error}") from error
 
     def _begin(self, stream: Stream) -> None:
         self._stream: Stream | None = stream
@@ -103,7 +105,7 @@ class Link:
         self._reader.start()
 
     def _put(self, stream: Stream, again: list[Waiting[TextFuture]]) -> None:
-        """Has these sent first by a new stream."""
+        """Sends these requests first on a new stream."""
         for waiting in (*self.watch.probes(TextFuture()), *again):
             stream.put(self._in_flight.begin(waiting))
 
@@ -112,7 +114,7 @@ class Link:
         if future.cancelled() and stream is not None:
             stream.wake()
 
-    # ---- what the thread that reads does
+    # ---- the thread that reads
 
     def _run(self, first: Stream) -> None:
         stream: Stream | None = first
@@ -127,14 +129,14 @@ class Link:
             ended.settle()
 
     def _end_if_wanted(self, stream: Stream | None) -> None:
-        """Ends a new stream, where that was wanted before it was there."""
+        """Ends a new stream if its end was requested before it was made."""
         if stream is not None and self.watch.ended:
             stream.kill()
         elif stream is not None and self.watch.closing is not None:
             stream.finish_writing()
 
     def _read(self, stream: Stream) -> tuple[Cause, str]:
-        """Reads replies to the end of the stream; why it ended."""
+        """Reads replies until the stream ends. Returns why it ended."""
         splitter = protocol.Splitter(protocol.MAX_REPLY)
         cause: Cause | None = None
         try:
@@ -145,7 +147,7 @@ class Link:
                     stream.kill()
         except (protocol.FrameFault, KeyError) as error:
             stream.kill()
-            return cause or Cause.ITSELF, f"the stream is no server's ({error})"
+            return cause or Cause.ITSELF, f"the other end is not a server ({error})"
         except (OSError, ValueError) as error:
             return cause or Cause.ITSELF, f"the stream ended ({error})"
         return cause or Cause.ITSELF, "the stream ended"
@@ -155,7 +157,7 @@ class Link:
             self._in_flight.replied(message).answer(message)
 
     def _after(self, cause: Cause, why: str) -> tuple[Stream | None, Ended[TextFuture]]:
-        """The stream that follows one that has ended, and what becomes of the requests."""
+        """Makes the stream that follows one that has ended, and settles its requests."""
         waiting = self._in_flight.take_all()
         if self.watch.ended:
             cause, why = Cause.CLOSED, self.watch.ended
@@ -177,7 +179,7 @@ class Link:
         return stream, ended
 
     def _again(self) -> Stream:
-        """Another stream; a socket is tried for a while. Closed where there is none."""
+        """Makes another stream; tries a socket for a while. Raises Closed if there is none."""
         for delay in retry_delays():
             time.sleep(delay)
             try:
@@ -188,9 +190,9 @@ class Link:
         return self._opened(RETRY_SECONDS)
 
     def _missing(self, stream: Stream) -> set[str]:
-        """The documents that were stored before, and that the server doesn't have any more.
+        """The documents that were stored on this connection and that the server no longer has.
 
-        Closed where it doesn't answer.
+        Raises Closed if the server doesn't answer.
         """
         if not self._in_flight.stored or (self._origin is not None and self._origin.keeps):
             return set()
@@ -210,8 +212,8 @@ class Link:
         return self._in_flight.take_missing(waiting.future)
 
     def restart(self) -> set[str]:
-        """Ends a server that was started here and is at a request that nobody awaits, and starts
-        another one; the documents that are lost by that."""
+        """Ends a server that was started here and works on a request that nobody waits for, and
+        starts another one. Returns the addresses of the documents that are lost."""
         before, stream = set(self._in_flight.stored), self._stream
         self.watch.is_forced = True
         if stream is not None:
@@ -227,7 +229,7 @@ class Link:
     # ---- the end
 
     def finish(self) -> int | None:
-        """Ends the connection once the replies under way have come; the status of the server."""
+        """Ends the connection when all replies have come. Returns the server's exit status."""
         self.watch.close()
         stream = self._stream
         if stream is not None:
@@ -236,7 +238,7 @@ class Link:
         return self._status
 
     def kill(self) -> None:
-        """Ends the connection at once; what is under way fails."""
+        """Ends the connection at once; requests under way fail."""
         self.watch.ended = self.watch.ended or "the connection was ended"
         stream = self._stream
         if stream is not None:
@@ -245,5 +247,5 @@ class Link:
 
 
 def _unsent(request: Request) -> TimedOut:
-    return TimedOut("not sent in time, since the server takes nothing while it is at another "
-                    f"request: {request.shown[:SHOWN]}")
+    return TimedOut("not sent in time, because the server is busy with another request: "
+                    f"{request.shown[:SHOWN]}")

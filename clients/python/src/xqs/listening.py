@@ -1,4 +1,4 @@
-"""Where a server of many clients listens: a Unix socket, or a port of loopback."""
+"""Where a server of many clients listens: at a Unix socket or a loopback port."""
 
 import os
 import pathlib
@@ -12,21 +12,21 @@ from xqs.errors import XqError
 
 BACKLOG = 128
 SYSTEMD = "systemd:"
-"""The socket with which systemd starts a program."""
+"""The place of the socket that systemd passes."""
 FIRST_INHERITED = 3
-"""The number of the first file that systemd gives."""
+"""The number of the first file descriptor that systemd passes."""
 
 
 class PlaceError(XqError):
-    """A place where nothing can listen, and why."""
+    """A place where the program can't listen; the message says why."""
 
 
 def listen(where: str) -> socket.socket:
     """A socket that listens at `unix:PATH`, `tcp:PORT` or `tcp:HOST:PORT`.
 
-    A Unix socket can be opened by its owner alone (mode 0600); a file of a socket where nobody
-    listens any more is replaced. HOST has to be loopback, and is 127.0.0.1 where none is named;
-    port 0 is any that is free. Raises PlaceError.
+    Only its owner can open a Unix socket (mode 0600). The file of a socket without a listener is
+    replaced. HOST must be loopback, by default 127.0.0.1. Port 0 is any free one. Raises
+    PlaceError.
     """
     try:
         if where == SYSTEMD:
@@ -44,9 +44,9 @@ def listen(where: str) -> socket.socket:
 
 
 def inherited() -> socket.socket:
-    """The one socket that systemd gives with the start. Raises PlaceError."""
+    """The one socket that systemd passes at the start. Raises PlaceError."""
     if not _is_inherited(FIRST_INHERITED) or os.environ.get("LISTEN_FDS") != "1":
-        raise PlaceError(f"{SYSTEMD}: systemd has given no socket, or more than one")
+        raise PlaceError(f"{SYSTEMD}: systemd passed no socket, or more than one")
     os.set_inheritable(FIRST_INHERITED, False)
     listener = socket.socket(fileno=FIRST_INHERITED)
     is_own = listener.family == socket.AF_UNIX or listener.getsockname()[0] in LOOPBACK
@@ -60,7 +60,7 @@ def _is_inherited(number: int) -> bool:
 
 
 def notify(state: str) -> None:
-    """Tells systemd how this program does, where that has started it and wants to know."""
+    """Tells systemd the state of this program, if systemd has started it and asks for that."""
     place = os.environ.get("NOTIFY_SOCKET")
     if not place:
         return
@@ -92,7 +92,7 @@ def remove_stale(path: str) -> None:
     except FileNotFoundError:
         return
     if not stat.S_ISSOCK(mode):
-        raise PlaceError(f"unix:{path}: a file stands there that is no socket")
+        raise PlaceError(f"unix:{path}: there is a file that is no socket")
     with socket.socket(socket.AF_UNIX, socket.SOCK_STREAM) as probe:
         try:
             probe.connect(path)
@@ -117,7 +117,7 @@ def listen_port(place: LoopbackPort) -> socket.socket:
 
 
 def name_of(listener: socket.socket) -> str:
-    """The place at which a socket listens, as `connect` takes it."""
+    """The place of a listening socket, in the form that `connect` takes."""
     address = listener.getsockname()
     if listener.family == socket.AF_UNIX:
         return f"unix:{address}"
@@ -127,8 +127,8 @@ def name_of(listener: socket.socket) -> str:
 
 @contextmanager
 def removed_at_end(listener: socket.socket) -> Iterator[None]:
-    """At the end the file of a Unix socket is removed, if it still is the same one; one that
-    systemd has given stays."""
+    """At the end removes the file of a Unix socket if it is still the same one. A socket of systemd
+    stays."""
     if listener.family != socket.AF_UNIX or _is_inherited(listener.fileno()):
         yield
         return
@@ -143,6 +143,6 @@ def removed_at_end(listener: socket.socket) -> Iterator[None]:
 
 
 def identity_of(path: pathlib.Path) -> tuple[int, int]:
-    """The device and the number of a file. Raises OSError."""
+    """The device and inode of a file. Raises OSError."""
     status = path.lstat()
     return status.st_dev, status.st_ino

@@ -1,4 +1,4 @@
-"""`xqs load`: stores the XML files of a folder, resumes after a kill, and lists what is refused."""
+"""`xqs load`: stores the XML files of a folder, resumes after a kill, and lists refused files."""
 
 import argparse
 import json
@@ -31,7 +31,7 @@ XML_FILES = "*.xml"
 
 @dataclass(frozen=True)
 class Found:
-    """A file below the folder: its path there with `/` between names, and what it is."""
+    """A file below the folder: its path there with `/` between names, and its size and time."""
 
     path: str
     place: Path
@@ -40,26 +40,27 @@ class Found:
 
 @dataclass
 class Outcome:
-    """What became of a load: how many files are stored, those that are refused with the reason of
-    each, and those that failed for want of memory or store, which a later run tries again."""
+    """The outcome of a load: how many files are stored, those that are refused with the reasons,
+    and those that failed because memory ran out or the store failed, which a later run tries
+    again."""
 
     stored: int = 0
     refused: dict[str, str] = field(default_factory=dict)
     failed: dict[str, str] = field(default_factory=dict)
     by_choice: list[Path] = field(default_factory=list)
-    """The files that other choices of reading may take."""
+    """The refused files that other options may take."""
 
     def wrong(self) -> dict[str, str]:
-        """The files that are not stored, with the reason of each."""
+        """The files that are not stored, with the reason for each."""
         return {**self.refused, **self.failed}
 
 
 class Search:
-    """The files below a folder whose name matches a pattern, sorted by path: `found`, and in
-    `refused` what can't be read or is no regular file, with the reason of each."""
+    """The files below a folder whose names match a pattern, sorted by path: `found`, and in
+    `refused` those that can't be read or are no regular files, with the reason for each."""
 
     def __init__(self, folder: Path, patterns: Sequence[str]) -> None:
-        """NotADirectoryError where there is no such folder."""
+        """Raises NotADirectoryError if there is no such folder."""
         if not folder.is_dir():
             raise NotADirectoryError(f"no folder: {folder}")
         self._folder, self._patterns = folder, patterns
@@ -71,7 +72,7 @@ class Search:
 
     @property
     def size(self) -> int:
-        """How many bytes the files have."""
+        """The size of all files, in bytes."""
         return sum(it.stat.st_size for it in self.found)
 
     def _add(self, place: Path, names: list[str]) -> None:
@@ -116,7 +117,7 @@ class Loader:
         self.outcome = Outcome()
 
     def load(self, files: Iterable[Found]) -> Outcome:
-        """Stores the files that the journal doesn't have yet. Closed where the server ends."""
+        """Stores the files that the journal doesn't have yet. Raises Closed if the server ends."""
         try:
             for file in files:
                 if not self._is_done(file):
@@ -175,14 +176,15 @@ class Loader:
 
 
 def _reason(file: Found, error: BaseException) -> str:
-    """Why a file is refused; a place in it stands in front."""
+    """Why a file is refused, after the place of the fault if there is one."""
     if isinstance(error, OSError):
         return error.strerror or str(error)
     return str(error).removeprefix(file.path)
 
 
 def load_folder(client: Client, folder: Path, prefix: str, choices: XmlChoices) -> Outcome:
-    """Stores the XML files of a folder at once, without a journal. Closed; NotADirectoryError."""
+    """Stores the XML files of a folder at once, without a journal. Raises Closed and
+    NotADirectoryError."""
     search = Search(folder, [XML_FILES])
     with progress_of(len(search.found), search.size) as progress:
         loader = Loader(client, None, progress, whole_prefix(prefix), choices)
@@ -192,8 +194,8 @@ def load_folder(client: Client, folder: Path, prefix: str, choices: XmlChoices) 
 
 
 def whole_prefix(prefix: str) -> str:
-    """What addresses begin with; a slash ends it. ValueError where no address begins so, or it is
-    kept for temporary documents."""
+    """The prefix of the addresses, with a slash at its end. Raises ValueError if it is no prefix of
+    an address, or is kept for temporary documents."""
     if not prefix:
         return prefix
     whole = prefix if prefix.endswith("/") else prefix + "/"
@@ -208,36 +210,37 @@ def parser() -> argparse.ArgumentParser:
     words = argparse.ArgumentParser(
         prog="xqs load",
         parents=[connection_options()],
-        description="Stores the XML files below a folder, each under the folder's prefix and its "
-        "path. What is interrupted goes on where it stopped, when the same is called again.",
+        description="Stores the XML files below a folder, each under the prefix and its path. "
+        "After an interruption the same command resumes where it stopped.",
         epilog="Status 0: all are stored; 1: some are refused, and listed with reason and place.",
     )
     words.add_argument("folder", type=Path)
-    words.add_argument("--as", dest="prefix", default="", help="what addresses begin with")
+    words.add_argument("--as", dest="prefix", default="", help="the prefix of the addresses")
     words.add_argument(
         "--match", action="append", metavar="PATTERN", help=f"names of files (default {XML_FILES})"
     )
     xml_options(words)
-    words.add_argument("--journal", type=Path, help="where the journal lies, until all is done")
-    words.add_argument("--anew", action="store_true", help="begin anew in spite of a journal")
+    words.add_argument("--journal", type=Path, help="the file of the journal, until all is done")
+    words.add_argument("--anew", action="store_true", help="begin anew, even if there is a journal")
     return words
 
 
 def xml_options(words: argparse.ArgumentParser) -> None:
-    """Adds the options of reading XML."""
+    """Adds the options for reading XML."""
     words.add_argument(
         "--names",
         choices=[it.value for it in Names],
         default=Names.REFUSE.value,
-        help="names with a colon: refuse the file (default), flat (p:a as p__a, turned back by "
-        "'--names flat' on the way out), or local (a alone)",
+        help="names with a colon: refuse the file (default), flat (p:a as p__a, which '--names "
+        "flat' reverses on the way out), or local (only a)",
     )
-    words.add_argument("--strip", action="store_true", help="drop texts of white space")
-    words.add_argument("--entities", action="store_true", help="expand entities of the file's own")
+    words.add_argument("--strip", action="store_true", help="drop texts that are only white space")
+    words.add_argument("--entities", action="store_true",
+                       help="expand entities that the file declares")
 
 
 def xml_choices(given: argparse.Namespace) -> XmlChoices:
-    """The choices that the options name."""
+    """The choices in the options."""
     return XmlChoices(Names(given.names), given.strip, given.entities)
 
 
@@ -254,7 +257,7 @@ def _head(given: argparse.Namespace, where: str) -> dict[str, str]:
 
 
 def main(words: Sequence[str]) -> int:
-    """Carries out the command."""
+    """Runs the command."""
     given = parser().parse_args(words)
     given.match = given.match or [XML_FILES]
     given.prefix = whole_prefix(given.prefix)
@@ -272,7 +275,7 @@ def main(words: Sequence[str]) -> int:
     except (Closed, KeyboardInterrupt) as error:
         journal.close()
         why = "interrupted" if isinstance(error, KeyboardInterrupt) else str(error)
-        print(f"xqs load: {why}; the same call goes on from here, by {journal.path}",
+        print(f"xqs load: {why}; the same command resumes from here, by {journal.path}",
               file=sys.stderr)
         return 1
     outcome.refused.update(search.refused)
@@ -284,7 +287,7 @@ def main(words: Sequence[str]) -> int:
 
 
 def _drop_left(client: Client, starts: list[str]) -> None:
-    """Drops what a run before this one left under temporary addresses."""
+    """Drops the temporary documents of an interrupted run."""
     if not starts:
         return
     for address in client.list():

@@ -1,4 +1,4 @@
-"""What a multiplexer counts, and how it is told: as text, and as Prometheus reads it."""
+"""What a multiplexer counts, in two forms: text, and the format of Prometheus."""
 
 import time
 from collections import Counter
@@ -15,23 +15,23 @@ KINDS = {Kind.QUERY.value: "query", Kind.STORE.value: "store", Kind.DROP.value: 
          Kind.LIST.value: "list"}
 OTHER = "other"
 STATUSES = ("done", "refused", "wanting", OTHER)
-"""The names of the statuses, and of one that there is not."""
+"""The names of the statuses, and of an unknown one."""
 CONTENT_TYPE = "text/plain; version=0.0.4; charset=utf-8"
 SHOWN = 100
-"""So many characters of a request stand in a line of the log."""
+"""How many characters of a request a line of the log shows."""
 LINES = 20
-"""So many lines of the log may come in a second; more are counted."""
+"""How many lines the log may get in a second; further ones are only counted."""
 
 
 def holds_in(on_file: bool) -> str:
-    """How a report calls the place where a server has its documents."""
+    """How a report names the place where a server has its documents."""
     return "file" if on_file else "memory"
 
 
 @dataclass(frozen=True)
 class ServerReport:
-    """How one server does: its number, where it has the documents, its state, the frames that it
-    was sent, what waits there, the bytes that it has, and how often it was started again."""
+    """The figures of one server: its number, where it has the documents, its state, the frames sent
+    to it, the requests that wait there, its memory in bytes, and how often it was started again."""
 
     number: int
     holds: str
@@ -44,8 +44,8 @@ class ServerReport:
 
 @dataclass(frozen=True)
 class Report:
-    """How a multiplexer does: its servers, clients, what waits, the writes that were carried out,
-    the reads that were compared, and why nothing is written any more."""
+    """The figures of a multiplexer: its servers, its clients, what waits, the writes carried out,
+    the reads compared, and why writes have stopped."""
 
     servers: list[ServerReport]
     clients: int
@@ -58,7 +58,7 @@ class Report:
 
 @dataclass
 class Times:
-    """Times in buckets: how many were up to each bound, their sum, and how many there were."""
+    """Times in buckets: how many were at most each bound, their sum, and their number."""
 
     buckets: list[int] = field(default_factory=lambda: [0] * len(BOUNDS))
     total: float = 0.0
@@ -74,7 +74,7 @@ class Times:
                 return
 
     def cumulated(self) -> Iterator[tuple[str, int]]:
-        """Each bound with how many times were up to it."""
+        """Each bound with the number of times up to it."""
         so_far = 0
         for bound, count in zip(BOUNDS, self.buckets, strict=True):
             so_far += count
@@ -83,10 +83,10 @@ class Times:
 
 
 class Metrics:
-    """Counts the replies that leave, by kind and status, and tells those that are refused or slow.
+    """Counts the replies that leave, by kind and status, and logs those that are refused or slow.
 
-    A time is from a request's coming to its reply's leaving. `slow` is from how many seconds on a
-    request is told; `say` gets the lines.
+    A time is that from the arrival of a request to the departure of its reply. `slow` is the time
+    in seconds from which a request is logged; `say` gets the lines.
     """
 
     def __init__(self, slow: float, say: Callable[[str], None]) -> None:
@@ -97,7 +97,7 @@ class Metrics:
         self._second, self._lines, self._left_out = 0, 0, 0
 
     def note(self, request: Request) -> None:
-        """A reply leaves."""
+        """Counts a reply that leaves."""
         reply = request.reply or b"\0"
         seconds = time.monotonic() - request.since
         kind = KINDS.get(request.kind, OTHER)
@@ -121,12 +121,12 @@ class Metrics:
 
 
 def shown(request: Request) -> str:
-    """A request in one line, cut where it is long."""
+    """A request in one line, cut if it is long."""
     text = request.payload[1:1 + 4 * SHOWN].decode(errors="replace")
     if request.kind == Kind.STORE and len(request.payload) > 1:
         text = text[1:1 + request.payload[1]]
     cut = ".." if len(text) > SHOWN else ""
-    kind = request.kind.decode("latin-1") or "a frame that is none"
+    kind = request.kind.decode("latin-1") or "an invalid frame"
     return f"{kind} {text[:SHOWN]!r}{cut}, {len(request.payload)} bytes"
 
 
@@ -140,7 +140,7 @@ def _head(name: str, kind: str, text: str) -> list[str]:
 
 
 def _family(name: str, kind: str, text: str, samples: Iterable[tuple[str, float]]) -> list[str]:
-    """A figure with its samples, each with its labels."""
+    """A figure with its samples and their labels."""
     return _head(name, kind, text) + [f"{name}{labels} {value:g}" if value % 1 else
                                       f"{name}{labels} {int(value)}" for labels, value in samples]
 
@@ -151,7 +151,7 @@ def _requests(metrics: Metrics) -> list[str]:
     lines = _family(
         "xqs_replies_total", "counter", "Replies that left, by kind and status.", counts)
     name = "xqs_request_seconds"
-    lines += _head(name, "histogram", "From a request's coming to its reply's leaving.")
+    lines += _head(name, "histogram", "From the arrival of a request to the end of its reply.")
     for kind, times in metrics.times.items():
         lines += [f'{name}_bucket{{kind="{kind}",le="{bound}"}} {count}'
                   for bound, count in times.cumulated()]
@@ -168,10 +168,10 @@ def _servers(report: Report) -> list[str]:
     return [
         *_family("xqs_server_ready", "gauge", "Whether a server answers reads.",
                  each(lambda it: float(it.state == "ready"))),
-        *_family("xqs_server_frames", "gauge", "Frames that a server was sent since its start.",
+        *_family("xqs_server_frames", "gauge", "Frames sent to a server since its start.",
                  each(lambda it: it.frames)),
-        *_family("xqs_server_line", "gauge", "Requests that a server was given and has not "
-                 "answered.", each(lambda it: it.line)),
+        *_family("xqs_server_line", "gauge", "Requests that a server has not answered yet.",
+                 each(lambda it: it.line)),
         *_family("xqs_server_memory_bytes", "gauge", "Resident memory of a server.",
                  each(lambda it: it.memory)),
         *_family("xqs_server_restarts_total", "counter", "How often a server was started again.",
@@ -196,7 +196,7 @@ def _whole(report: Report, metrics: Metrics) -> list[str]:
 
 
 def status_text(report: Report, metrics: Metrics) -> str:
-    """The figures for whoever looks, in lines."""
+    """The figures for people, in lines."""
     up = int(time.time() - metrics.began)
     lines = [f"up {up // 3600}:{up // 60 % 60:02}:{up % 60:02}, {report.clients} clients, "
              f"{report.reads_waiting} reads and {report.writes_waiting} writes wait"]

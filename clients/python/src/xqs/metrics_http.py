@@ -8,11 +8,10 @@ from contextlib import suppress
 from xqs.metrics import CONTENT_TYPE
 
 SECONDS = 10.0
-"""How long a request's head may take to come."""
+"""How many seconds a request's head may take."""
 MOST_LINES = 100
 NAMES = ("127.0.0.1", "localhost", "[::1]")
-"""The names of this machine that a request may have: a page of another name that points here is
-refused."""
+"""The host names that a request may use; a page under another name that points here is refused."""
 
 PAGE = """<!doctype html><html lang="en"><meta charset="utf-8"><title>xqs mux</title>
 <meta http-equiv="refresh" content="5"><style>:root{{color-scheme:light dark}}
@@ -33,7 +32,7 @@ class MetricsServer:
         self._metrics, self._status = metrics, status
 
     async def serve(self, reader: asyncio.StreamReader, writer: asyncio.StreamWriter) -> None:
-        """Answers one request of a connection, and ends that."""
+        """Answers one request of a connection, and ends the connection."""
         try:
             with suppress(OSError, ValueError, asyncio.IncompleteReadError, TimeoutError):
                 async with asyncio.timeout(SECONDS):
@@ -56,7 +55,7 @@ class MetricsServer:
 
 
 async def _head(reader: asyncio.StreamReader) -> tuple[str, str, str]:
-    """The method, the path and the host of a request. ValueError where it is none."""
+    """The method, path and host of a request. Raises ValueError if it is none."""
     method, path, _ = (await reader.readline()).decode("latin-1").split()
     host = ""
     for _ in range(MOST_LINES):

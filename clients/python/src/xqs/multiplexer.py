@@ -18,24 +18,24 @@ from xqs.starting import is_on_file as is_on_file
 from xqs.watching import ended_by_memory, resident
 
 VAIN_STARTS = 4
-"""So many servers in turn may end before a client has sent them anything."""
+"""How many servers in a row may end before a client has sent them anything."""
 LOOK_AGAIN = 1.0
-"""At most once in so many seconds the server is asked whether its database has shut."""
+"""The least number of seconds between two checks whether the server's database has shut."""
 LOOK_FOR_GONE = 0.25
-"""So often it is looked whether the client of a long query has gone."""
+"""The seconds between two checks whether the client of a long query has gone."""
 
 
 def is_gone(request: Request) -> bool:
-    """Whether the client of a request no longer awaits its reply."""
+    """Whether the client of a request has gone."""
     return request.peer is not None and request.peer.gone
 
 
 class Multiplexer:
-    """Serves clients by one server, which it starts, and starts again where that has to be.
+    """Serves clients by one server, which it starts, and starts again when needed.
 
-    `command` runs the server; where `--file` stands in it the documents outlive the server. `say`
-    gets each line that whoever runs this has to know. `failed` is set when the server could not be
-    started again; there is nothing left to do then but to `stop`.
+    `command` runs the server; with `--file` in it the documents outlive the server. `say` gets each
+    line for the operator. `failed` is set when the server could not be started again; then only
+    `stop` is left to do.
     """
 
     def __init__(self, command: Sequence[str], settings: Settings,
@@ -59,7 +59,7 @@ class Multiplexer:
         self.failed = asyncio.Event()
 
     async def start(self) -> None:
-        """Starts the server. Raises StartFailed where it does not answer."""
+        """Starts the server. Raises StartFailed if it doesn't answer."""
         await self._begin_backend()
         self._tasks = [asyncio.create_task(work) for work in
                        (self._watch_end(), self._watch_shut(), self._watch_gone(),
@@ -71,7 +71,7 @@ class Multiplexer:
             self._settings.memory)
 
     async def _pass_on(self, request: Request) -> None:
-        """Sends a request to the server in its turn: those who wait stand in one line."""
+        """Sends a request to the server in its turn: all requests wait in one queue."""
         await self._window.acquire()
         async with self._turn:
             if not is_gone(request):
@@ -86,7 +86,7 @@ class Multiplexer:
             await self._backend.send(request)
 
     async def _make_ready(self) -> None:
-        """A server that runs, and has frames left. The turn is the caller's."""
+        """A server that runs and has frames left. The caller holds the turn."""
         if self._backend.frames >= self._settings.frames:
             await self._backend.finish()
         if self._backend.ended.is_set():
@@ -117,7 +117,7 @@ class Multiplexer:
             self._addresses.add(address)
 
     def _look_whether_shut(self) -> None:
-        """Has the server list its addresses: where that wants the store too, it has shut."""
+        """Asks the server for its addresses: if the reply is `store` too, its database has shut."""
         now = time.monotonic()
         if now - self._looked >= LOOK_AGAIN:
             self._looked = now
@@ -138,8 +138,8 @@ class Multiplexer:
                 await self._make_ready()
 
     async def _watch_gone(self) -> None:
-        """Has the server begin anew where it is at a query of a client that has gone, unless
-        documents in its memory would be lost."""
+        """Restarts the server if it works on a query of a client that has gone, unless documents in
+        its memory would be lost."""
         while True:
             await asyncio.sleep(LOOK_FOR_GONE)
             if (self._on_file or not self._addresses) and self._backend.leave_for_nobody():
@@ -154,9 +154,9 @@ class Multiplexer:
                     await self._replace(backend)
 
     async def _replace(self, old: Backend) -> None:
-        """Starts a server in the place of one that has ended, and settles what that one had.
+        """Starts a server in place of one that has ended, and settles the requests of that one.
 
-        The turn is the caller's.
+        The caller holds the turn.
         """
         in_flight = list(old.in_flight)
         old.in_flight.clear()
@@ -181,11 +181,11 @@ class Multiplexer:
         self._say(f"the server is started again ({why}; {in_flight} requests in flight)")
 
     def _settle(self, old: Backend, in_flight: list[Request]) -> list[Request]:
-        """Answers the request that the server was at; gives those that are to be sent again.
+        """Answers the request that the server worked on, and returns those to send again.
 
-        Those behind it were not carried out. That one may have been: where it asks for a change,
-        its client sees the end of its stream, which says so; a query is answered as too slow, or
-        as wanting the store, unless it is to be tried once more.
+        The requests behind it were not carried out. This one may have been. If it is a change, its
+        client's stream ends, which says so. A query gets the reply that it took too long, or status
+        2 `store`, unless it is to be tried once more.
         """
         if not in_flight:
             return []
@@ -200,7 +200,7 @@ class Multiplexer:
 
     @staticmethod
     def _blame(old: Backend) -> bytes:
-        """What the query gets at which a server ended."""
+        """The reply to the query during which a server ended."""
         if old.overdue:
             return TOO_SLOW
         return TOO_LARGE if ended_by_memory(old, "", 0, None) else WANTING_STORE
@@ -214,7 +214,8 @@ class Multiplexer:
                 front.peer.answer(front, reply)
 
     def _lose_memory(self) -> None:
-        """Says which documents are lost, and ends each client, since it counts on them."""
+        """Reports the lost documents, and disconnects all clients, since they rely on these
+        documents."""
         self._say(lost({name.decode() for name in self._addresses}))
         self._addresses.clear()
         self._clients.end_all()
@@ -237,11 +238,11 @@ class Multiplexer:
 
     @property
     def metrics(self) -> Metrics:
-        """What was counted of the replies."""
+        """The counts of the replies."""
         return self._clients.metrics
 
     def report(self) -> Report:
-        """How the server and its clients do."""
+        """The figures of the server and its clients."""
         backend, process = self._backend, self._backend.process.pid
         server = ServerReport(
             1, holds_in(self._on_file), "down" if backend.ended.is_set() else "ready",
@@ -249,16 +250,16 @@ class Multiplexer:
         return Report([server], len(self._clients))
 
     def changes_of(self, address: bytes) -> str:
-        """What stays the same as long as nobody changes the document at the address."""
+        """A token that stays the same as long as nobody changes the document at the address."""
         return self._changes.token(address)
 
     async def upgrade(self, command: Sequence[str], say: Callable[[str], Awaitable[None]]) -> None:
-        """Refused: another program is taken over where there are several servers."""
-        raise XqError("there is one server, which has to end before another program can take its "
-                      "place: start the multiplexer anew, or with --servers 2 or more")
+        """Raises Refused: only several servers can be upgraded."""
+        raise XqError("a single server can't be upgraded while it runs: start the multiplexer "
+                      "anew, or with --servers 2 or more")
 
     async def stop(self) -> None:
-        """Answers the frames that were read, ends the clients and then the server."""
+        """Answers the frames that were read, disconnects the clients, and then ends the server."""
         await self._clients.drain()
         self._cancel_tasks()
         await self._backend.finish()

@@ -1,4 +1,4 @@
-"""`xqs mux`: one server or several for many clients, behind a Unix socket or a port of loopback."""
+"""`xqs mux`: one server or several for many clients, behind a Unix socket or a loopback port."""
 
 import argparse
 import asyncio
@@ -37,7 +37,7 @@ MOST_SERVERS = 4
 
 
 def say(text: str, command: str = "mux") -> None:
-    """Prints a line for whoever runs the command; nothing, where nobody reads it any more."""
+    """Prints a line for the operator; does nothing if nobody reads it any more."""
     with contextlib.suppress(OSError):
         print(f"xqs {command}: {text}", file=sys.stderr, flush=True)
 
@@ -59,43 +59,43 @@ def duration(text: str) -> float:
 
 
 def add_limits(parser: argparse.ArgumentParser) -> None:
-    """Adds the options of a multiplexer's limits, which `settings_of` reads beside the bounds of a
-    request (`bounds.add_options`)."""
+    """Adds the options for a multiplexer's limits, which `settings_of` reads together with the
+    bounds of a request (`bounds.add_options`)."""
     limit = parser.add_argument_group("limits").add_argument
     limit("--window", type=positive, metavar="N", default=DEFAULTS.window,
           help="frames of all clients that wait for replies (%(default)s)")
     limit("--frames", type=positive, metavar="N", default=DEFAULTS.frames,
-          help="start the server again after so many frames (%(default)s)")
+          help="start the server again after this number of frames (%(default)s)")
     add_servers(parser)
     add_client_limits(parser, DEFAULTS)
 
 
 def add_servers(parser: argparse.ArgumentParser) -> None:
-    """Adds the options of several servers."""
+    """Adds the options for several servers."""
     option = parser.add_argument_group("servers").add_argument
     option("--servers", type=positive, metavar="N", default=default_servers(),
-           help="servers that hold the same documents: reads run side by side, and one that ends "
-           "is replaced while the others answer (%(default)s; the processors less one, at most "
+           help="servers that hold the same documents: reads run in parallel, and one that ends is "
+           "replaced while the others answer (%(default)s; one less than the processors, at most "
            f"{MOST_SERVERS})")
     add_kept(option)
     option("--line", type=positive, metavar="N", default=DEFAULTS.line,
            help="stores and drops that wait for the server with the file (%(default)s)")
     option("--line-seconds", type=duration, metavar="N", default=DEFAULTS.line_seconds,
-           help="how long one of them waits while that is started again (%(default)g)")
+           help="how many seconds one of them waits while that server starts again (%(default)g)")
     option("--compare", type=natural, metavar="N", default=DEFAULTS.compare,
-           help="one of so many reads is asked of all servers, and where they differ nothing is "
+           help="one read in this number goes to all servers; if their replies differ nothing is "
            "stored any more (%(default)s; 0: none)")
 
 
 def add_kept(option: Callable[..., argparse.Action]) -> None:
-    """Adds the option of what all servers keep of what they have read."""
+    """Adds the option for the memory that all servers may use for what they have read."""
     option("--kept", type=megabytes, metavar="MB", default=KEPT,
-           help="megabytes that all servers together keep of what queries have read, for the next "
-           "ones, in equal shares (%(default)s; 0: what each keeps by itself)")
+           help="megabytes of cache for what queries have read, of all servers together, in equal "
+           "shares (%(default)s; 0: as much as each has by itself)")
 
 
 def megabytes(text: str) -> int:
-    """A number of megabytes that servers can keep, or 0, for argparse."""
+    """A number of megabytes that servers can keep, or 0; for argparse."""
     number = int(text)
     if not 0 <= number <= MOST_KEPT:
         raise ValueError
@@ -103,7 +103,7 @@ def megabytes(text: str) -> int:
 
 
 def default_servers() -> int:
-    """The processors less one, at least one and at most four."""
+    """One less than the number of processors, at least one and at most four."""
     return max(1, min(len(os.sched_getaffinity(0)) - 1, MOST_SERVERS))
 
 
@@ -117,14 +117,14 @@ def natural(text: str) -> int:
 
 def multiplexer_of(command: Sequence[str], settings: Settings,
                    say: Callable[[str], None]) -> Multiplexer | ManyServers:
-    """The multiplexer for so many servers as the settings say."""
+    """The multiplexer for the number of servers in the settings."""
     if settings.servers == 1:
         return Multiplexer(command, settings, say)
     return ManyServers(command, settings, say)
 
 
 def add_client_limits(parser: argparse.ArgumentParser, defaults: Settings) -> None:
-    """Adds the options of what clients may do, which `client_settings_of` reads."""
+    """Adds the options for the limits of clients, which `client_settings_of` reads."""
     limit = parser.add_argument_group("limits of clients").add_argument
     limit("--clients", type=positive, metavar="N", default=defaults.clients,
           help="clients at once (%(default)s); more are turned away")
@@ -135,12 +135,12 @@ def add_client_limits(parser: argparse.ArgumentParser, defaults: Settings) -> No
     limit("--held", type=positive, metavar="BYTES", default=defaults.held,
           help="all unread replies above which the client with most is cut off (%(default)s)")
     limit("--stall", type=duration, metavar="SECONDS", default=defaults.stall,
-          help="cut off a client that takes nothing of its replies for so long (%(default)g)")
+          help="cut off a client that reads no reply for this long (%(default)g)")
     parser.add_argument("--read-only", action="store_true", help="refuse stores and drops")
 
 
 def settings_of(arguments: argparse.Namespace) -> Settings:
-    """The settings that the options of `add_limits` make."""
+    """The settings in the options of `add_limits`."""
     bounds = bounds_of(arguments)
     return dataclasses.replace(
         client_settings_of(arguments), window=arguments.window, frames=arguments.frames,
@@ -150,7 +150,7 @@ def settings_of(arguments: argparse.Namespace) -> Settings:
 
 
 def client_settings_of(arguments: argparse.Namespace) -> Settings:
-    """The settings that the options of `add_client_limits` make."""
+    """The settings in the options of `add_client_limits`."""
     return Settings(
         clients=arguments.clients, client_window=arguments.client_window, unread=arguments.unread,
         held=arguments.held, stall=arguments.stall, read_only=arguments.read_only)
@@ -165,10 +165,10 @@ def split_command(argv: Sequence[str]) -> tuple[list[str], list[str]]:
 
 async def until_signal(failed: asyncio.Event, again: asyncio.Event,
                        asked: asyncio.Event | None = None) -> None:
-    """Waits for SIGTERM, SIGINT, SIGHUP, a failure, or the event by which another process has
-    asked for the end; the next signal after that sets `again`.
+    """Waits for SIGTERM, SIGINT, SIGHUP, a failure, or the event by which another process asks for
+    the end. The next signal after that sets `again`.
 
-    A SIGHUP that is ignored stays so, as `nohup` wants it.
+    An ignored SIGHUP stays ignored, as `nohup` needs it.
     """
     loop = asyncio.get_running_loop()
     first = asked or asyncio.Event()
@@ -182,8 +182,8 @@ async def until_signal(failed: asyncio.Event, again: asyncio.Event,
 
 async def run(place: str, command: Sequence[str], settings: Settings, metrics: str | None = None,
               on_ready: Callable[[], object] = lambda: None) -> int:
-    """Serves clients at the place until a signal, and figures at another one; gives the exit
-    status. `on_ready` is called once clients can connect.
+    """Serves clients at one place until a signal, and figures at another. Returns the exit status.
+    `on_ready` is called once clients can connect.
 
     Raises StartFailed and PlaceError.
     """
@@ -217,7 +217,7 @@ async def run(place: str, command: Sequence[str], settings: Settings, metrics: s
 
 @asynccontextmanager
 async def figures_at(where: str, multiplexer: Multiplexing) -> AsyncIterator[None]:
-    """While the figures can be asked for by HTTP at a port of loopback. PlaceError."""
+    """A context in which a loopback port serves the figures by HTTP. Raises PlaceError."""
     figures = MetricsServer(lambda: figures_of(multiplexer), lambda: lines_of(multiplexer))
     listener = listening.listen(f"tcp:{where}")
     server = await asyncio.start_server(figures.serve, sock=listener)
@@ -229,15 +229,15 @@ async def figures_at(where: str, multiplexer: Multiplexing) -> AsyncIterator[Non
 
 
 def in_memory_warning(servers: int) -> str:
-    """What is said where no file is named."""
+    """The message if no file is named."""
     end = "whenever the server ends" if servers == 1 else "when all servers end at once"
-    return f"the documents live in memory: they are lost {end}"
+    return f"the documents are in memory: they are lost {end}"
 
 
 def command_of(words: Sequence[str], given: argparse.Namespace) -> Sequence[str]:
     """The command of the server: the words after `--`, or what the options say.
 
-    ValueError where that is no command.
+    Raises ValueError if that is no command.
     """
     place = Command(tuple(words)) if words else server_of(given)
     if not isinstance(place, Command):
@@ -246,10 +246,10 @@ def command_of(words: Sequence[str], given: argparse.Namespace) -> Sequence[str]
 
 
 def main(words: Sequence[str] | None = None) -> int:
-    """Runs `xqs mux` with these words; gives the exit status.
+    """Runs `xqs mux` with these words. Returns the exit status.
 
-    0 after a signal that ended it, 1 where the server was lost, 2 for wrong words. Raises XqError,
-    ValueError and OSError where it can't begin.
+    0 after a signal that ended it, 1 if the server was lost, 2 for wrong words. Raises XqError,
+    ValueError and OSError if it can't begin.
     """
     before, after = split_command(sys.argv[1:] if words is None else words)
     parser = argparse.ArgumentParser(
@@ -257,13 +257,12 @@ def main(words: Sequence[str] | None = None) -> int:
         parents=[connection_options(kept=False)],
     )
     parser.add_argument("place", metavar="unix:PATH|tcp:PORT|systemd:",
-                        help="where clients connect; systemd: is the socket that systemd gives")
+                        help="where clients connect; systemd: is the socket that systemd passes")
     parser.add_argument("--upgrade", action="store_true",
-                        help="have the multiplexer that runs at the place take over this command, "
-                        "server by server, and refuse it where it answers otherwise")
+                        help="upgrade the multiplexer that runs at the place to this command, "
+                        "server by server, unless its answers differ")
     parser.add_argument("--metrics", metavar="[HOST:]PORT",
-                        help="a port of loopback where HTTP has /metrics, as Prometheus reads it, "
-                        "and a page")
+                        help="a loopback port for HTTP with /metrics, for Prometheus, and a page")
     add_limits(parser)
     given = parser.parse_args(before)
     command = command_of(after, given)

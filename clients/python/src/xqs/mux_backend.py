@@ -1,4 +1,4 @@
-"""One run of the server below the multiplexer: from its start to its end."""
+"""One process of the server below the multiplexer, from its start to its end."""
 
 import asyncio
 import collections
@@ -18,10 +18,10 @@ from xqs.streams import PIECE
 from xqs.waiting import first_set
 
 PROBE = b"Q()"
-"""The kind and the body of the first frame: the server has opened its store when it answers."""
+"""The kind and body of the first frame: when the server answers it, it has opened its store."""
 
 BLAMELESS = 0.25
-"""Seconds for which a server may be at a query before its end is put down to that query."""
+"""If a server ends within this many seconds of work on a query, the query is not the cause."""
 
 
 class ServerEnded(XqError):
@@ -29,7 +29,7 @@ class ServerEnded(XqError):
 
 
 def _future() -> "asyncio.Future[bytes]":
-    """A future whose failure is nobody's to wait for."""
+    """A future whose failure nobody has to look at."""
     future: asyncio.Future[bytes] = asyncio.get_running_loop().create_future()
     future.add_done_callback(lambda it: it.cancelled() or it.exception())
     return future
@@ -42,7 +42,7 @@ class Own(Request):
     done: "asyncio.Future[bytes]" = dataclasses.field(default_factory=_future)
 
     def fail(self) -> None:
-        """Its server has ended."""
+        """The request's server has ended."""
         if not self.done.done():
             self.done.set_exception(ServerEnded("the server ended before its reply"))
 
@@ -52,14 +52,14 @@ class StartFailed(XqError):
 
 
 class Backend:
-    """A server that runs: frames go in, and each reply is given to `on_reply` with its request, and
-    to whoever asked for it here.
+    """A running server: it takes frames, and passes each reply to `on_reply` with its request, or
+    to the code here that asked.
 
     `in_flight` has the requests without a reply, in the order of their frames. The server carries
-    out one frame after the other, so that of these only the first may have been carried out when
-    it ends. `frames` counts what was sent to it, `last_work` is for how many seconds the server was
-    at the request that it answered last. With `seconds` the server is killed when it works
-    on one request for longer, and `overdue` is that request.
+    out one frame after another, so when it ends, only the first of these may have been carried out.
+    `frames` counts the frames sent to it. `last_work` is how many seconds the server worked on the
+    request that it answered last. With `seconds` the server is killed when it works longer on one
+    request; `overdue` is that request.
     """
 
     def __init__(self, process: asyncio.subprocess.Process,
@@ -80,11 +80,11 @@ class Backend:
     @classmethod
     async def start(cls, command: Sequence[str], on_reply: Callable[[Request, bytes], None],
                     seconds: float | None, memory: int | None = None) -> "Backend":
-        """Runs the command within so much memory, and waits until it has answered a frame, so that
-        its store is open.
+        """Runs the command within this much memory, and waits until it has answered a frame, so
+        that its store is open.
 
-        Raises StartFailed. The server is a process group of its own, so that a signal from the
-        terminal reaches the multiplexer alone.
+        Raises StartFailed. The server is a process group of its own, so a signal from the terminal
+        reaches only the multiplexer.
         """
         try:
             process = await asyncio.create_subprocess_exec(
@@ -98,7 +98,7 @@ class Backend:
             await backend._probe(command, answered)
         except BaseException:
             backend.kill()
-            await asyncio.wait((backend._task,))  # (which may have been cancelled, too)
+            await asyncio.wait((backend._task,))  # (it may also have been cancelled)
             raise
         backend._on_reply, backend._seconds = on_reply, seconds
         return backend
@@ -115,13 +115,13 @@ class Backend:
         await self.drained()
 
     async def drained(self) -> None:
-        """Waits until the pipe has taken what was sent, or most of it, or the server has ended."""
+        """Waits until the pipe has taken most of what was sent, or the server has ended."""
         assert self.process.stdin is not None
         with contextlib.suppress(OSError):
             await self.process.stdin.drain()
 
     def put(self, *requests: Request) -> None:
-        """Sends requests without a wait: what the pipe doesn't take stands in memory."""
+        """Sends requests without waiting: what the pipe doesn't take stays in memory."""
         pipe = self.process.stdin
         assert pipe is not None
         is_first = not self.in_flight
@@ -134,7 +134,7 @@ class Backend:
         self.in_flight.extend(requests)
         if is_first:
             self._watch_front()
-        # (asyncio says so on standard error where a closed pipe is written to again and again)
+        # (asyncio logs repeated writes to a closed pipe on standard error)
         if not pipe.is_closing():
             pipe.write(frames)
         requests[0].unsent = is_first and pipe.is_closing()
@@ -163,11 +163,11 @@ class Backend:
             await self.process.stdin.wait_closed()
 
     def _take_all(self, messages: Iterator[bytes]) -> None:
-        """Takes replies; FrameFault for one that no request awaits."""
+        """Takes replies. Raises FrameFault for a reply that no request waits for."""
         for message in messages:
             self._answered += 1
             if not self.in_flight or protocol.tag_of(message) != self._answered:
-                raise protocol.FrameFault("a reply that no request awaits")
+                raise protocol.FrameFault("a reply without a request")
             request = self.in_flight.popleft()
             self.last_work = self.worked()
             self._watch_front()
@@ -181,8 +181,8 @@ class Backend:
             self._alarm = asyncio.get_running_loop().call_later(self._seconds, self._look)
 
     def _look(self) -> None:
-        """Ends the server where it is at one request for too long; else looks again when it may
-        be. (One alarm for each request would cost as much as sending it.)"""
+        """Ends the server if it has worked on one request for too long; else looks again when that
+        may be so. (An alarm for each request would cost as much as sending it.)"""
         self._alarm = None
         if self._seconds is None or not self.in_flight:
             return
@@ -194,17 +194,17 @@ class Backend:
             self.kill()
 
     def worked(self) -> float:
-        """For how many seconds the server has been at the first request in flight."""
+        """How many seconds the server has worked on the first request in flight."""
         return time.monotonic() - self._front_since
 
     def is_blameless(self) -> bool:
-        """Whether the first request in flight was so short under way that it hardly made the server
-        end."""
+        """Whether the server ended so soon after the first request in flight that this hardly is
+        the cause."""
         return self.worked() <= BLAMELESS
 
     def leave_for_nobody(self, patience: float = BLAMELESS) -> bool:
-        """Ends a server that has been for so many seconds at a query whose client has gone; whether
-        it was."""
+        """Ends a server that has worked for `seconds` on a query whose client has gone. Returns
+        whether it did."""
         front = self.in_flight[0] if self.in_flight else None
         if front is None or front.peer is None or front.changes() or self.worked() <= patience:
             return False
@@ -215,21 +215,21 @@ class Backend:
         return True
 
     def is_worth_a_repetition(self, front: Request) -> bool:
-        """Whether the first request in flight, of a server that has ended, is to be sent to the
-        next one: a query, sent for the first time, that hardly made the server end."""
+        """Whether to send the first request in flight, of a server that has ended, to the next one:
+        if it is a query, sent for the first time, that is hardly the cause."""
         if front.changes() or front.repeated or self.overdue or not self.is_blameless():
             return False
         front.repeated = True
         return True
 
     async def finish(self) -> None:
-        """Ends the server's input, and waits until it has answered what it has and has ended."""
+        """Closes the server's input, and waits until it has answered its requests and ended."""
         assert self.process.stdin is not None
         self.process.stdin.close()
         await self.ended.wait()
 
     def kill(self) -> None:
-        """Ends the server at once, with whatever it started."""
+        """Ends the server at once, with all that it started."""
         if self.process.returncode is None:
             try:
                 os.killpg(self.process.pid, signal.SIGKILL)

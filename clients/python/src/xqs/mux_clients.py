@@ -1,4 +1,4 @@
-"""The clients of a multiplexer or a node: their connections, their frames in turn, their limits."""
+"""The clients of a multiplexer or a node: their connections, frames and limits."""
 
 import asyncio
 import dataclasses
@@ -22,15 +22,15 @@ class Settings:
     Counts: `clients` connections at once; `window` frames of all clients, and `client_window` of
     one, that wait for their replies; `frames` that a server answers before it is started again.
     Bytes: `unread` of one client's replies, above which its next frame waits; `held` of all
-    clients' replies, above which the client with most of them is cut off. Seconds: `stall`, after
-    which a client that takes nothing of its replies is cut off; `seconds`, after which a server
-    that still works on one request is ended (None: never), and `memory` is how many bytes all
-    servers may have (None: any). With `read_only` nothing can be stored or dropped.
+    clients' replies, above which the client with most of them is cut off; `memory` of all servers
+    (None: any). Seconds: `stall`, after which a client that reads nothing of its replies is cut
+    off; `seconds`, after which a server that still works on one request is ended (None: never).
+    With `read_only` nothing can be stored or dropped.
 
-    `servers` hold the same documents, and keep `kept` megabytes of what queries have read, all
-    together (0: what each keeps by itself). While the first one is started again `line` stores and
-    drops may wait for it, each for `line_seconds`. One in `compare` reads is asked of all servers
-    (0: none). A request that takes `slow` seconds is told.
+    `servers` servers hold the same documents, and together use `kept` megabytes for what queries
+    have read (0: as much as each would by itself). While the first server is started again, `line`
+    stores and drops may wait for it, each for `line_seconds`. One in `compare` reads is sent to all
+    servers (0: none). A request that takes `slow` seconds is logged.
     """
 
     clients: int = 200
@@ -52,11 +52,11 @@ class Settings:
 
 
 class Clients:
-    """Takes the frames of all clients, and gives each to `handle`, those of one in their order.
+    """Takes the frames of all clients, and passes each to `handle`, those of one client in order.
 
-    `handle` comes back once the frame may be followed by the client's next; its reply goes to the
-    request's peer. A frame that is none, and with `read_only` a change, is refused here. `say` gets
-    each line that whoever runs this has to know.
+    `handle` returns once the client's next frame may follow. Its reply goes to the request's peer.
+    Invalid frames are refused here, and changes too with `read_only`. `say` gets each line for the
+    operator.
     """
 
     def __init__(self, settings: Settings, say: Callable[[str], None],
@@ -69,14 +69,14 @@ class Clients:
         self.metrics = Metrics(settings.slow, say)
 
     def __len__(self) -> int:
-        """How many clients are connected."""
+        """The number of connected clients."""
         return len(self._peers)
 
     async def serve(self, reader: asyncio.StreamReader, writer: asyncio.StreamWriter) -> None:
-        """Serves one connection up to its end; what `asyncio.start_server` calls."""
+        """Serves one connection until it ends; `asyncio.start_server` calls this."""
         if self._stopping or len(self._peers) >= self._settings.clients:
             if not self._stopping:
-                self._say(f"a client more than {self._settings.clients}: it is turned away")
+                self._say(f"one client more than {self._settings.clients}: it is turned away")
             writer.close()
             return
         peer = Peer(reader, writer, self._settings.client_window, self._settings.unread,
@@ -108,7 +108,7 @@ class Clients:
         return READ_ONLY if request.changes() else refusal("prof:FRAME")
 
     async def watch_unread(self) -> None:
-        """Cuts off clients that take nothing of their replies, or have too many of them."""
+        """Cuts off clients that read nothing of their replies, or have too many of them."""
         taken: dict[Peer, tuple[int, float]] = {}
         while True:
             await asyncio.sleep(min(1.0, self._settings.stall / 4))
@@ -131,7 +131,7 @@ class Clients:
                 peer.cut()
 
     def cut_largest(self) -> None:
-        """Cuts off those with most replies that they have not read, while all have too many."""
+        """Cuts off the clients with most unread replies, while all together have too many."""
         unread = {peer: peer.unread() for peer in self._peers}
         while unread and sum(unread.values()) > self._settings.held:
             largest = max(unread, key=lambda peer: unread[peer])
@@ -140,29 +140,29 @@ class Clients:
             largest.cut()
 
     def refuse_new(self) -> None:
-        """From now on no new client is served, and no frame is read."""
+        """Takes no new client and reads no more frames."""
         self._stopping = True
 
     def end_all(self) -> None:
-        """Ends each connection once the replies that are there have left."""
+        """Ends each connection once its finished replies have left."""
         for peer in list(self._peers):
             peer.end()
 
     def cut_all(self) -> None:
-        """Ends each connection at once; no new client is served."""
+        """Ends each connection at once, and takes no new client."""
         self._stopping = True
         for peer in list(self._peers):
             peer.cut()
 
     async def drain(self) -> None:
-        """Waits until the frames that were read have their replies; no other frame is read."""
+        """Waits until the frames that were read have their replies; reads no others."""
         self._stopping = True
         self._dismiss_idle()
         while self._peers:
             await asyncio.wait(list(self._peers.values()))
 
     def _dismiss_idle(self) -> None:
-        """Has those who wait for a client's next frame wait no longer."""
+        """Wakes the tasks that wait for a client's next frame."""
         for peer, task in self._peers.items():
             if peer.waits_for_frame:
                 task.cancel()

@@ -1,4 +1,4 @@
-"""What a multiplexer that runs can be asked by its owner, and the commands that ask it."""
+"""What the owner of a running multiplexer can ask it, and the commands that ask."""
 
 import argparse
 import asyncio
@@ -18,21 +18,25 @@ from xqs.served import Identity, place_named
 from xqs.upgrading import NotUpgraded, absolute
 
 AT_ONCE = "now"
-"""The argument by which a multiplexer ends without answering what it was asked before."""
+"""The argument that makes a multiplexer end without answering the requests that it has."""
 
 
 class Multiplexing(Protocol):
-    """A multiplexer, whatever number of servers it has."""
+    """A multiplexer with any number of servers."""
 
     @property
-    def metrics(self) -> Metrics: ...
+    def metrics(self) -> Metrics:
+        """The counts of the replies."""
 
-    def report(self) -> Report: ...
+    def report(self) -> Report:
+        """The figures of the servers and their clients."""
 
-    def changes_of(self, address: bytes) -> str: ...
+    def changes_of(self, address: bytes) -> str:
+        """A token that stays the same as long as nobody changes the document at the address."""
 
     async def upgrade(self, command: Sequence[str],
-                      say: Callable[[str], Awaitable[None]]) -> None: ...
+                      say: Callable[[str], Awaitable[None]]) -> None:
+        """Makes the servers run another command. Raises XqError if they can't."""
 
 
 def figures_of(multiplexer: Multiplexing) -> str:
@@ -46,7 +50,7 @@ def lines_of(multiplexer: Multiplexing) -> str:
 
 
 def actions_of(multiplexer: Multiplexing) -> Mapping[str, Action]:
-    """What it can be asked."""
+    """The requests that it answers."""
 
     async def status(_: str, say: Say) -> None:
         await say(lines_of(multiplexer))
@@ -65,8 +69,8 @@ def actions_of(multiplexer: Multiplexing) -> Mapping[str, Action]:
 
 def own_actions(command: Sequence[str], asked: asyncio.Event,
                 again: asyncio.Event) -> Mapping[str, Action]:
-    """What a multiplexer that is a process of its own can be asked besides: which process it is,
-    which file its command has, and to end, in order or at once."""
+    """Further requests of a multiplexer in its own process: its process number, the file of its
+    command, and to end, in order or at once."""
     file = file_of(command)
     identity = Identity.of(file) if file is not None else None
 
@@ -85,25 +89,25 @@ def own_actions(command: Sequence[str], asked: asyncio.Event,
 
 
 def ask_upgrade(place: str, command: Sequence[str]) -> int:
-    """Has the multiplexer at a place run another command; gives the exit status. NotUpgraded,
-    NotRunning."""
+    """Makes the multiplexer at a place run another command. Returns the exit status. Raises
+    NotUpgraded, NotRunning."""
     words = absolute(command, Path.cwd())
     try:
         for line in control.ask(place, f"upgrade {json.dumps(words)}", None):
             print(f"xqs mux: {line}", file=sys.stderr, flush=True)
     except control.Refused as error:
-        raise NotUpgraded(f"the program is not taken over, and the one before goes on: {error}"
+        raise NotUpgraded(f"the upgrade is refused, and the old program goes on: {error}"
                           ) from error
-    print("xqs mux: the program is taken over", file=sys.stderr)
+    print("xqs mux: all servers are upgraded", file=sys.stderr)
     return 0
 
 
 def status_main(words: Sequence[str]) -> int:
-    """Carries out `xqs status`."""
+    """Runs `xqs status`."""
     parser = argparse.ArgumentParser(
         prog="xqs status",
-        description="Says how the multiplexer does that listens at a place: its servers, clients, "
-        "lines and times.")
+        description="Shows the status of the multiplexer that listens at a place: its servers, "
+        "clients, queues and times.")
     parser.add_argument("place", metavar="unix:PATH|tcp:PORT|FILE",
                         help="where its clients connect, or the file that `xqs serve` serves")
     parser.add_argument("--metrics", action="store_true",

@@ -1,5 +1,5 @@
-"""What is looked at again and again while several servers run: what has stopped, is left by its
-client, waits for too long, or nears a limit."""
+"""Periodic checks while several servers run: which one was stopped, works for a client that has
+gone, waits for too long, or nears a limit."""
 
 import asyncio
 import time
@@ -19,20 +19,21 @@ if TYPE_CHECKING:
     from xqs.mux_many import ManyServers
 
 LOOK = 0.25
-"""Seconds between two looks at the servers."""
+"""Seconds between two checks of the servers."""
 LEAST_PATIENCE = 0.25
-"""Seconds that a server is left at a query whose client has gone, at least; else as long as its
-last start took, since another one takes as long."""
+"""The least number of seconds that a server goes on with a query whose client has gone. It is more
+if the server's last start took longer, since another start takes as long."""
 LOOK_AGAIN = 1.0
-"""At most once in so many seconds a server is asked whether its database has shut."""
+"""The least number of seconds between two checks whether a server's database has shut."""
 LEAST_LIFE = 600.0
-"""A server is not replaced for its memory before it has run for so many seconds."""
+"""The number of seconds that a server runs before it may be replaced because of its memory."""
 SPARE = 20
-"""A server is replaced before its limit of frames: the last one by a twentieth of it before."""
+"""How early servers are replaced before their limit of frames: the last one by a twentieth of
+it."""
 
 
 class Looks:
-    """Looks at the servers, and has those replaced that have to be."""
+    """Checks the servers, and has them replaced when needed."""
 
     def __init__(self, servers: "ManyServers", settings: Settings) -> None:
         self._servers, self._settings = servers, settings
@@ -43,11 +44,11 @@ class Looks:
         self._leaves: asyncio.Task[bool] | None = None
 
     async def stop(self) -> None:
-        """Looks at nothing more."""
+        """Ends the checks."""
         await cancelled(*self._tasks, *([self._leaves] if self._leaves else []))
 
     def look_whether_shut(self, replica: Replica) -> None:
-        """Has a server list its addresses: where that wants the store too, it has shut."""
+        """Asks a server for its addresses: if the reply is `store` too, its database has shut."""
         now = time.monotonic()
         if now - self._looked.get(replica, 0.0) >= LOOK_AGAIN:
             self._looked[replica] = now
@@ -63,7 +64,7 @@ class Looks:
             pass
 
     async def watch(self) -> None:
-        """Looks at the servers and the lines."""
+        """Checks the servers and the queues."""
         while True:
             await asyncio.sleep(LOOK)
             self._look_at_memory()
@@ -79,7 +80,8 @@ class Looks:
                 replica.resident = resident(replica.backend.process.pid) or replica.resident
 
     def _end_for_nobody(self) -> None:
-        """Ends a server that is at a query whose client has gone, where documents stay."""
+        """Ends a server that works on a query whose client has gone, if no documents are lost by
+        that."""
         for replica in self._replicas.ready():
             others = self._replicas.holding(replica)
             keeps = self._servers.has_file(replica) or others or not self._servers.addresses
@@ -90,7 +92,7 @@ class Looks:
                 replica.why = "the client of its query has gone"
 
     def _end_stopped(self) -> None:
-        """Ends servers that were stopped as a process, where documents stay."""
+        """Ends servers that were stopped as processes, if no documents are lost by that."""
         for replica in self._stopped.look(self._replicas.all):
             holds = replica.state in HOLDING and not self._servers.has_file(replica)
             if not holds or self._replicas.holding(replica):
@@ -106,7 +108,7 @@ class Looks:
                                    f"{self._settings.line_seconds:g} seconds: they are refused")
 
     def _replace_due(self) -> None:
-        """Has a server begin anew that is near its limit of frames or memory."""
+        """Replaces a server that is near its limit of frames or memory."""
         if self._servers.leaving.locked() or self._leaves and not self._leaves.done():
             return
         for replica in self._replicas.ready():

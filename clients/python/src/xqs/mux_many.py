@@ -1,4 +1,4 @@
-"""Several servers for many clients: started, filled, watched, and replaced while the others go
+"""Several servers for many clients: starts, fills, watches and replaces one while the others go
 on."""
 
 import asyncio
@@ -25,22 +25,22 @@ from xqs.waiting import cancelled
 from xqs.watching import blame
 
 LONGEST_DELAY = 60.0
-"""Seconds between two tries to start a server, once it has failed often while others are left."""
+"""Seconds between two tries to start a server that has failed often, while others run."""
 LOOK = 0.05
-"""Seconds between two looks whether a server is idle, or back."""
+"""Seconds between two checks whether a server is idle, or back."""
 LONGEST_START = 120.0
-"""So many seconds a server in memory may take to answer its first request."""
+"""How many seconds a server in memory may take to answer its first request."""
 LONGEST_RETURN = 300.0
-"""So many seconds a server that was ended in order holds up the end of the next one."""
+"""How many seconds the orderly end of one server delays the end of the next."""
 LONGEST_END = 60.0
 
 
 class ManyServers:
     """Serves clients by several servers that hold the same documents.
 
-    The command's server has the file, where it names one; the others hold the documents in memory.
-    `say` gets each line that whoever runs this has to know. `failed` is set when no server is left
-    and none can be started; there is nothing left to do then but to `stop`.
+    If the command names a file, the first server has it; the others hold the documents in memory.
+    `say` gets each line for the operator. `failed` is set when no server is left and none can be
+    started; then only `stop` is left to do.
     """
 
     def __init__(self, command: Sequence[str], settings: Settings,
@@ -82,7 +82,7 @@ class ManyServers:
         return task
 
     async def keep_anew(self, replica: Replica) -> None:
-        """Gives up whatever is done to bring a server up, and begins with its first command."""
+        """Gives up bringing a server up, and begins again with its first command."""
         await cancelled(self.keepers[replica])
         replica.command, replica.is_new = self.command, False
         await self._clear(replica)
@@ -94,6 +94,7 @@ class ManyServers:
             self._give_up()
 
     def has_file(self, replica: Replica) -> bool:
+        """Whether it is the server with the file."""
         return self.replicas.on_file and replica is self.replicas.first
 
     async def _begin(self, replica: Replica) -> None:
@@ -128,14 +129,14 @@ class ManyServers:
             await self._until_ended(replica)
 
     def _is_last_hope(self, replica: Replica) -> bool:
-        """Whether nobody could be served where this server can't be started: others hold no
-        documents, and none has them in its file."""
+        """Whether nobody could be served if this server can't be started: no other server holds the
+        documents, or has them in its file."""
         return not self.replicas.holding() and (
             self.has_file(replica) or not self.replicas.on_file)
 
     def _has_refused_new(self, replica: Replica, error: Exception) -> bool:
-        """Notes that a server could not begin with a command that it was given; whether it can go
-        back to another one. Where the words are the same, the program itself has changed."""
+        """Notes that a server could not start with a command that it was given. Returns whether it
+        can go back to another one. If the words are the same, the program itself has changed."""
         if not replica.is_new:
             return False
         replica.failure = error
@@ -165,7 +166,7 @@ class ManyServers:
         self.drop_out(replica, "")
 
     def drop_out(self, replica: Replica, why: str) -> None:
-        """A server has ended, or has to: others take over what it had."""
+        """Passes the requests of a server that has ended, or must end, on to others."""
         if replica.state is State.DOWN:
             return
         replica.state = State.DOWN
@@ -193,7 +194,8 @@ class ManyServers:
                   f"{len(self.replicas.ready())} others serve)")
 
     def _lose_memory(self) -> None:
-        """Says which documents are lost, and ends each client, since it counts on them."""
+        """Reports the lost documents, and disconnects all clients, since they rely on these
+        documents."""
         self.note(lost({name.decode() for name in self.addresses}))
         self.addresses.clear()
         self.replicas.lose()
@@ -209,7 +211,7 @@ class ManyServers:
             self.addresses.add(address)
 
     async def _bring_up(self, replica: Replica) -> None:
-        """Starts a server, and gives it the documents. Raises StartFailed, ServerEnded and
+        """Starts a server and gives it the documents. Raises StartFailed, ServerEnded and
         CannotFill."""
         replica.state = State.DOWN
         if not self.has_file(replica):
@@ -239,8 +241,8 @@ class ManyServers:
         self.replicas.dispatch()
 
     async def leave(self, replica: Replica, why: str) -> bool:
-        """Ends a server in order, so that another one takes its place, once it has answered what it
-        has; whether it was done: never where it alone holds documents in memory."""
+        """Replaces a server in order, once it has answered its requests. Returns whether it did:
+        never if it alone holds documents in memory."""
         async with self.leaving:
             others = self.replicas.holding(replica)
             if not others and not self.has_file(replica):
@@ -261,7 +263,7 @@ class ManyServers:
         return True
 
     async def _end_in_order(self, replica: Replica, why: str) -> None:
-        """Ends a server that is at nothing; one in memory at once."""
+        """Ends an idle server; one in memory at once."""
         if self.has_file(replica):
             replica.why = why
             await self._finish(replica)
@@ -286,11 +288,11 @@ class ManyServers:
 
     @property
     def metrics(self) -> Metrics:
-        """What was counted of the replies."""
+        """The counts of the replies."""
         return self.clients.metrics
 
     def report(self) -> Report:
-        """How the servers and their clients do."""
+        """The figures of the servers and their clients."""
         servers = [
             ServerReport(it.number, holds_in(self.has_file(it)), it.state.value, it.frames,
                          it.waiting, it.resident, it.restarts) for it in self.replicas.all]
@@ -298,15 +300,15 @@ class ManyServers:
                       len(self.replicas.writes), self.comparing.count, self.replicas.differs)
 
     def changes_of(self, address: bytes) -> str:
-        """What stays the same as long as nobody changes the document at the address."""
+        """A token that stays the same as long as nobody changes the document at the address."""
         return self.replicas.changes.token(address)
 
     async def upgrade(self, command: Sequence[str], say: Callable[[str], Awaitable[None]]) -> None:
-        """Has another program take over, server by server. Raises NotUpgraded."""
+        """Upgrades the servers, one after another, to another program. Raises NotUpgraded."""
         await upgrade(self, command, say)
 
     async def stop(self) -> None:
-        """Answers the frames that were read, ends the clients and then the servers."""
+        """Answers the frames that were read, disconnects the clients, and then ends the servers."""
         await self.clients.drain()
         await self._end_tasks()
         running = [it for it in self.replicas.all if it.runs]
@@ -317,7 +319,7 @@ class ManyServers:
 
     @staticmethod
     async def _finish(replica: Replica) -> None:
-        """Ends a server in order, or at once where that takes too long."""
+        """Ends a server in order, or at once if that takes too long."""
         try:
             await asyncio.wait_for(replica.finish(), LONGEST_END)
         except TimeoutError:

@@ -1,4 +1,4 @@
-"""One client of the multiplexer: the frames that it sends, and its replies in their order."""
+"""One client of the multiplexer: the frames that it sends, and its replies in order."""
 
 import asyncio
 import collections
@@ -11,11 +11,11 @@ from xqs import protocol
 from xqs.protocol import Kind, Status
 
 SHORTEST = 5
-"""A frame's least length: a tag and a kind."""
+"""The least length of a frame: a tag and a kind."""
 
 
 def refusal(code: str) -> bytes:
-    """The status and the text of a reply that refuses a request."""
+    """The status and text of a reply that refuses a request."""
     return bytes([Status.REFUSED]) + code.encode()
 
 
@@ -27,14 +27,16 @@ TOO_LARGE = refusal("xqs:MEMORY")
 
 @dataclasses.dataclass(eq=False, slots=True)
 class Request:
-    """A frame on its way: whose it is, its tag as the client gave it, and its kind and body.
+    """A frame on its way: its client, its tag as the client gave it, its kind and body.
 
-    `reply` is the status and the text of its reply, once there is one. A request without a peer is
-    the multiplexer's own. `unsent` says that no byte of it can have reached the server, `repeated`
-    that it has been sent once more. `since` is when it came, `sent` when it was handed to a server.
+    `reply` is the status and text of its reply, once there is one. A request without a peer is the
+    multiplexer's own. `unsent` says that no byte of it can have reached the server, `repeated` that
+    it has been sent once more. `since` is the time when it came, `sent` the time when it was passed
+    to a server.
 
-    Where several servers carry the same writes, `place` is how many writes a read sees, and a read
-    that `is_stale` is asked once more, since one before it was. One that `is_fast` was so before.
+    With several servers, `place` is how many writes a read sees. A read that `is_stale` is
+    repeated, since an earlier read of its client sees more writes. `is_fast` marks a read that was
+    fast before.
     """
 
     peer: "Peer | None"
@@ -60,15 +62,15 @@ class Request:
 
 
 class Peer:
-    """A connection of a client.
+    """A client's connection.
 
-    Replies leave in the order of the client's frames, also those that the multiplexer makes
+    Replies leave in the order of the client's frames, including those that the multiplexer makes
     itself. `window` is how many of its frames may wait for their replies, `unread` how many bytes
     of replies may wait for the client to read them before its next frame is taken. `on_reply` gets
     each request as its reply leaves.
 
-    `reads` and `writes` are how many have no reply yet of those that were counted here by whoever
-    answers them.
+    `reads` and `writes` count the requests without a reply; the code that answers them counts them
+    here.
     """
 
     def __init__(self, reader: asyncio.StreamReader, writer: asyncio.StreamWriter,
@@ -90,10 +92,10 @@ class Peer:
         writer.transport.set_write_buffer_limits(high=unread)
 
     async def next_request(self) -> Request | None:
-        """The next frame of the client; None where its stream ends, inside a frame too.
+        """The next frame of the client; None if its stream ends, even inside a frame.
 
-        A frame that is too short for a tag, or too long, comes back with its refusal as its reply;
-        after one that is too long nothing more is read.
+        A frame that is too short for a tag, or too long, comes with its refusal as its reply. After
+        one that is too long nothing more is read.
         """
         if self._ended:
             return None
@@ -113,9 +115,9 @@ class Peer:
         return Request(self, protocol.tag_of(message), message[4:])
 
     async def expect(self, request: Request) -> None:
-        """Takes a request into the order of the replies, as soon as the client's limits allow.
+        """Adds a request to the order of the replies, as soon as the client's limits allow.
 
-        Raises OSError where the client has gone.
+        Raises OSError if the client has gone.
         """
         await self._room.acquire()
         await self._writer.drain()
@@ -127,7 +129,7 @@ class Peer:
         self._flush()
 
     def settle(self, request: Request) -> None:
-        """Counts a request no more among those that have no reply."""
+        """Removes a request from the counts of those without a reply."""
         if request.changes():
             self.writes -= 1
         else:
@@ -135,24 +137,24 @@ class Peer:
         self._settled.set()
 
     async def until_read(self) -> None:
-        """Waits until no read is without its reply."""
+        """Waits until each read has its reply."""
         while self.reads:
             self._settled.clear()
             await self._settled.wait()
 
     async def until_written(self) -> None:
-        """Waits until no write is without its reply."""
+        """Waits until each write has its reply."""
         while self.writes:
             self._settled.clear()
             await self._settled.wait()
 
     def behind(self, request: Request) -> list[Request]:
-        """The requests of this client behind one, as far as their replies have not left."""
+        """The requests of this client after the given one whose replies have not left."""
         pending = list(self._pending)
         return pending[pending.index(request) + 1:] if request in pending else []
 
     def answer(self, request: Request, reply: bytes) -> None:
-        """Gives a request its reply, which leaves once those before it have left."""
+        """Gives a request its reply, which leaves after the replies before it."""
         request.reply = reply
         self._flush()
 
@@ -166,23 +168,23 @@ class Peer:
             self._idle.set()
 
     def _write(self, message: bytes) -> None:
-        # (asyncio says so on standard error where a client that has gone is written to again)
+        # (asyncio logs repeated writes to a client that has gone on standard error)
         if not self.gone and not self._writer.is_closing():
             data = protocol.framed(message)
             self._written += len(data)
             self._writer.write(data)
 
     def unread(self) -> int:
-        """The bytes of replies that wait for the client to read them."""
+        """The number of bytes of replies that the client has not read."""
         return self._writer.transport.get_write_buffer_size()
 
     def taken(self) -> int:
-        """The bytes of replies that have left for the client so far."""
+        """The number of bytes of replies that have left for the client so far."""
         return self._written - self.unread()
 
     def has_gone(self) -> bool:
-        """Whether the client has closed its connection, and not its side alone; of a port of
-        loopback that isn't seen before something is written to it."""
+        """Whether the client has closed its connection, and not only its sending side. At a
+        loopback port that becomes visible only when something is written to it."""
         if self.gone:
             return True
         connection = self._writer.get_extra_info("socket")
@@ -193,7 +195,7 @@ class Peer:
         return any(event & (select.POLLHUP | select.POLLERR) for _, event in poller.poll(0))
 
     def end(self) -> None:
-        """Ends the connection once the replies that are there have left; frames are dropped."""
+        """Ends the connection once the finished replies have left; drops further frames."""
         self.gone = True
         while self._pending:
             self._pending.pop()
@@ -207,7 +209,8 @@ class Peer:
         self._writer.transport.abort()
 
     async def finish(self) -> None:
-        """Waits until each request has its reply and these have left, and ends the connection."""
+        """Waits until each request has its reply and the replies have left, and ends the
+        connection."""
         await self._idle.wait()
         self.gone = True
         self._writer.close()

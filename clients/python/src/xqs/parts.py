@@ -1,9 +1,9 @@
-"""The constructor text of one document, from its nodes in order, in parts where it is long.
+"""The constructor text of one document, from its nodes in order, in parts if it is long.
 
-A request holds about a megabyte. What is pending of an open element is taken away as a part once it
-grows beyond a limit: a document under a temporary address, whose nodes the element's constructor
-then asks for. Parts may ask for other parts. Once a document is known to be long, its nodes are
-`packing`'s as well, so that parts have few nodes. Nothing here reads or writes.
+A request holds about a megabyte. When the pending content of an open element grows beyond a limit,
+it becomes a part: a document under a temporary address, whose nodes the element's constructor then
+asks for. Parts may ask for other parts. Once a document is known to be long, its nodes are packed
+too (`packing`), so that parts have few nodes. This module does no input or output.
 """
 
 from dataclasses import dataclass
@@ -16,31 +16,31 @@ from xqs.temporary import Temporary
 from xqs.values import Atom, Close, Event, Leaf, NodeKind, Open, quoted
 
 PART_BYTES = 900_000
-"""The longest text of a part, more or less; a request holds 1,048,626 bytes of it at least."""
+"""About the longest text of a part; a request holds 1,048,626 bytes of it at least."""
 
 
 class TooLarge(XqError, ValueError):
-    """A document with more nodes, or deeper ones, than the server takes."""
+    """A document with more nodes or levels than the server takes."""
 
 
 class NotADocument(XqError, ValueError):
-    """What is to be stored is anything else than one document."""
+    """The nodes to store are not exactly one document."""
 
 
 @dataclass(frozen=True, slots=True)
 class Part:
-    """A document to be stored before the whole is, and to be dropped after it."""
+    """A document that is stored before the whole one, and dropped after it."""
 
     address: str
     text: str
 
 
 class _Run:
-    """Expressions that stand side by side: first those that stand for parts, then constructors.
+    """A run of adjacent expressions: first those for parts, then constructors.
 
-    `nodes` has of each how it is packed, None where it isn't. `size` is how many bytes the
-    constructors have, joined, `parts_size` those for parts; `packed` are the addresses of the parts
-    that the last of these stands for, where they are packed ones.
+    `nodes` has the packed form of each constructor, or None. `size` is the number of bytes of the
+    constructors, joined, `parts_size` that of the expressions for parts. `packed` are the addresses
+    of the packed parts that the last of these expressions stands for.
     """
 
     __slots__ = ("texts", "nodes", "size", "parts", "parts_size", "packed")
@@ -52,28 +52,28 @@ class _Run:
         self.size = self.parts = self.parts_size = 0
 
     def add(self, text: str, size: int, node: Packed | None) -> None:
-        """Puts a constructor behind the others."""
+        """Adds a constructor at the end."""
         self.texts.append(text)
         self.nodes.append(node)
         self.size += size + 2
 
     def give_up_parts(self) -> None:
-        """Takes the expressions for parts for constructors, where they have become long
-        themselves, so that they are put into the next part."""
+        """Turns the expressions for parts into constructors if they have become long themselves, so
+        that the next part takes them in."""
         if self.parts_size > PART_BYTES // 2:
             self.parts = self.parts_size = 0
             self.packed = []
 
     def constructors(self) -> str:
-        """What is to be put into a part."""
+        """The text for a part."""
         return ", ".join(self.texts[self.parts :])
 
     def items(self) -> list[tuple[str, Packed | None]]:
-        """What is to be put into a packed part."""
+        """The text for a packed part."""
         return list(zip(self.texts[self.parts :], self.nodes[self.parts :], strict=True))
 
     def replace(self, text: str) -> None:
-        """Puts the expression for a part in the place of the constructors."""
+        """Replaces the constructors by the expression for a part."""
         self.texts[self.parts :] = [text]
         self.nodes[self.parts :] = [None]
         self.parts += 1
@@ -82,7 +82,8 @@ class _Run:
         self.size = 0
 
     def replace_packed(self, address: str) -> None:
-        """Puts the expression for a packed part there, which is one with those before it."""
+        """Replaces the constructors by the expression for a packed part, joined with those before
+        it."""
         packed = [*self.packed, address]
         if self.packed:
             self.parts -= 1
@@ -92,8 +93,8 @@ class _Run:
 
 
 class _Parent(_Run):
-    """An open document or element: its constructor up to the brace, its attributes; it is the run
-    of its children itself."""
+    """An open document or element: its constructor up to the brace, its attributes, and as a run
+    its children."""
 
     __slots__ = ("head", "name", "attributes")
 
@@ -105,14 +106,14 @@ class _Parent(_Run):
 
 
 def byte_count(text: str) -> int:
-    """How many bytes the text has in UTF-8."""
+    """The number of bytes of the text in UTF-8."""
     return len(text) if text.isascii() else len(text.encode())
 
 
 class NodeCount:
-    """Counts the nodes of a document, taken in order, as they will be: adjacent texts are one.
+    """Counts the nodes of a document, taken in order, as the server will: adjacent texts are one.
 
-    Each method that takes a node raises TooLarge at the node that is one too many or too deep.
+    Each method that takes a node raises TooLarge if that is one node or level too many.
     """
 
     def __init__(self) -> None:
@@ -121,23 +122,23 @@ class NodeCount:
         self._after_text = False
 
     def open(self) -> None:
-        """An element begins."""
+        """Begins an element."""
         self.add()
         self._level += 1
 
     def close(self) -> None:
-        """The element that was opened last ends."""
+        """Ends the innermost open element."""
         self._level -= 1
         self._after_text = False
 
     def text(self) -> None:
-        """A text, which is not empty."""
+        """Counts a text, which is not empty."""
         if not self._after_text:
             self.add()
             self._after_text = True
 
     def add(self, count: int = 1) -> None:
-        """So many nodes that hold no others."""
+        """Counts nodes that hold no others."""
         self._after_text = False
         self.nodes += count
         if self.nodes > MAX_NODES:
@@ -147,35 +148,35 @@ class NodeCount:
 
 
 class DocumentText:
-    """Takes the nodes of a document in order, and gives the text that makes it; TooLarge as of
-    NodeCount."""
+    """Takes the nodes of a document in order, and gives the text that makes it. Raises TooLarge as
+    NodeCount does."""
 
     def __init__(self, temporary: Temporary, part_bytes: int = PART_BYTES) -> None:
         self._temporary = temporary
         self._limit = part_bytes
-        # A character takes five bytes at most: that of `&`, or four and none to escape.
+        # A character takes five bytes at most: `&` takes five, others four and are not escaped.
         self._piece = max(part_bytes // 6, 1)
         self._count = NodeCount()
         self._last = _Parent("document {")
         self._stack = [self._last]
         self._parts: list[Part] = []
         self._packs = False
-        """Whether nodes are packed: the document is long, as far as it is known."""
+        """Whether nodes are packed: whether the document is known to be long."""
         self._has_packed = False
 
     @property
     def nodes(self) -> int:
-        """How many nodes the document has so far."""
+        """The number of nodes so far."""
         return self._count.nodes
 
     def open(self, name: str) -> None:
-        """An element begins."""
+        """Begins an element."""
         self._count.open()
         self._last = _Parent(f"element {name} {{", name)
         self._stack.append(self._last)
 
     def attribute(self, name: str, value: str) -> None:
-        """An attribute of the element that has begun; before its children."""
+        """Adds an attribute to the element that has begun, before its children."""
         self._count.add()
         run = self._last.attributes
         if run is None:
@@ -188,7 +189,7 @@ class DocumentText:
         run.add(text, size, self._leaf(packing.ATTRIBUTE, name, value))
 
     def text(self, value: str) -> None:
-        """A text; it may be empty, and it is one node with a text before it."""
+        """Adds a text, which may be empty, and is one node with a text before it."""
         if not value:
             return
         self._count.text()
@@ -199,18 +200,18 @@ class DocumentText:
             self._add(f"text {{{quoted(value[at : at + self._piece])}}}", None)
 
     def comment(self, value: str) -> None:
-        """A comment."""
+        """Adds a comment."""
         self._count.add()
         self._add(self._valued("comment {", value), self._leaf(packing.COMMENT, "", value))
 
     def instruction(self, name: str, value: str) -> None:
-        """A processing instruction."""
+        """Adds a processing instruction."""
         self._count.add()
         self._add(self._valued(f"processing-instruction {name} {{", value),
                   self._leaf(packing.INSTRUCTION, name, value))
 
     def close(self) -> None:
-        """The element that was opened last ends."""
+        """Ends the innermost open element."""
         self._count.close()
         last = self._stack.pop()
         attributes = last.attributes
@@ -226,9 +227,9 @@ class DocumentText:
         self._add(last.head + ", ".join(texts) + "}", node)
 
     def event(self, event: Event) -> None:
-        """A step through printed nodes, those of the document itself aside.
+        """Takes the next event of printed nodes, except those of the document itself.
 
-        NotADocument for an atomic value, and for an attribute that is no element's.
+        Raises NotADocument for an atomic value, and for an attribute outside an element.
         """
         match event:
             case Open(NodeKind.ELEMENT, name):
@@ -244,17 +245,17 @@ class DocumentText:
             case Close():
                 self.close()
             case Atom() | _:
-                raise NotADocument("what is to be stored is not exactly one document")
+                raise NotADocument("the value is not exactly one document")
 
     def take_parts(self) -> list[Part]:
-        """The parts that have to be stored next, in this order."""
+        """The parts to store next, in this order."""
         parts, self._parts = self._parts, []
         return parts
 
     def whole(self) -> str:
         """The text of the whole document, once all its elements have ended.
 
-        Where nodes are packed it gives no document, should these not be as many as there were.
+        If nodes are packed, it gives no document unless it makes as many nodes as there were.
         """
         text = self._stack[0].head + ", ".join(self._stack[0].texts) + "}"
         return counted(text, self.nodes) if self._has_packed else text
@@ -272,9 +273,9 @@ class DocumentText:
             self._packs = self._limit >= packing.LEAST_PART
 
     def _take_away(self, run: _Run) -> None:
-        """Makes a part of the nodes that the run holds."""
+        """Makes a part of the nodes in the run."""
         run.give_up_parts()
-        # (in a packed part nodes stand a level deeper, which those below the document can't do)
+        # (in a packed part nodes are one level deeper, which the deepest ones can't be)
         is_below = run is not self._stack[0]
         if self._packs and is_below and len(self._stack) <= packing.HIGHEST:
             self._has_packed = True
@@ -289,7 +290,7 @@ class DocumentText:
         return part.address
 
     def _valued(self, head: str, value: str) -> str:
-        """The constructor of a node with a value, which parts hold where it is long."""
+        """The constructor of a node with a value, which is in parts if it is long."""
         if len(value) <= self._piece:
             return f"{head}{quoted(value)}}}"
         pieces = (value[at : at + self._piece] for at in range(0, len(value), self._piece))

@@ -1,9 +1,9 @@
-"""Addresses of files, and files of addresses, so that a folder that is loaded and exported again
-has the same names.
+"""Addresses of files, and files of addresses, such that a folder keeps its names when it is loaded
+and exported again.
 
-An address has letters, digits and `. _ / -` alone. Any other character of a file's name is written
-by its number, as in `_x0020_` for a space (the escapes of ISO 9075-14); and so is the `_` of a name
-that has such a text itself.
+An address has only letters, digits and `. _ / -`. Any other character of a file's name is written
+by its number, as `_x0020_` for a space (the escapes of ISO 9075-14). So is a `_` that begins such a
+text in the name itself.
 """
 
 import re
@@ -18,7 +18,7 @@ _LONGEST_NAME = 255
 
 
 class NoPath(XqError, ValueError):
-    """An address that no file below a folder can stand for."""
+    """An address for which there is no file below a folder."""
 
 
 def _by_number(found: re.Match[str]) -> str:
@@ -31,9 +31,9 @@ def _character(found: re.Match[str]) -> str:
 
 
 def address_of(path: str, prefix: str = "") -> str:
-    """The address of a file, by its path below the folder, with `/` between names.
+    """The address of a file, from its path below the folder, with `/` between names.
 
-    ValueError where it would be too long.
+    Raises ValueError if it would be too long.
     """
     address = prefix + _TO_ESCAPE.sub(_by_number, path)
     if len(address) > protocol.MAX_ADDRESS:
@@ -42,14 +42,14 @@ def address_of(path: str, prefix: str = "") -> str:
 
 
 def path_of(address: str) -> PurePosixPath:
-    """The path of the file below a folder that stands for an address.
+    """The path of an address's file below the folder.
 
-    NoPath where the address begins or ends with a slash, holds `.`, `..` or nothing between two
-    slashes, or would be another one when that file is loaded.
+    Raises NoPath if the address begins or ends with a slash, has `.`, `..` or nothing between two
+    slashes, or would be a different one when that file is loaded.
     """
     path = _ESCAPED.sub(_character, address)
     if _TO_ESCAPE.sub(_by_number, path) != address:
-        raise NoPath(f"{address} has an escape that its file would not be loaded with")
+        raise NoPath(f"{address} has an escape that would be lost if its file were loaded")
     names = path.split("/")
     if "" in names or "." in names or ".." in names or "\0" in path:
         raise NoPath(f"{address} is no path below a folder")

@@ -1,9 +1,9 @@
 """Where the text of a query is at fault.
 
-A reply has a code and no place. What is said here is seen in the text itself: by its tokens, by the
-grammar (`grammar` reads them), and by the functions and variables that the language or the text
-has. It is asked only where the server has refused the text, whose code decides; where nothing here
-explains the code, nothing is said.
+A reply has a code, but no place. This module finds the place in the text itself: by its tokens, by
+the grammar (`grammar` reads them), and by the functions and variables that the language or the text
+has. It is used only after the server has refused the text, and the server's code decides: if
+nothing in the text explains the code, there is no place.
 """
 
 import difflib
@@ -21,11 +21,11 @@ from xqs.queries import NOT_XML
 from xqs.tokens import Token, tokens
 
 KEYWORDS = tuple(sorted(set(re.findall(r'"([a-z-]+)"', GRAMMAR))))
-"""The words that mean something in the grammar."""
+"""The keywords of the grammar."""
 _NO_CALLS = {*NO_CALLS, *(it for it in KEYWORDS if it not in FUNCTIONS)}
-"""Names that stand before a bracket without being called: tests, `in (`, `return (`."""
+"""Names that may come before a bracket without being called: tests, `in (`, `return (`."""
 READ_AT_MOST = 20_000
-"""Of longer texts the grammar is not read: it takes time."""
+"""The grammar is not read for longer texts: it would take too long."""
 _NUMBERED = re.compile(r"&#(x[0-9a-fA-F]+|[0-9]+);")
 _EXPONENT = re.compile(r"[eE][+-]?[0-9]")
 _REFERENCE = re.compile(r"&(?!(?:lt|gt|amp|quot|apos|#[0-9]+|#x[0-9a-fA-F]+);)")
@@ -43,7 +43,7 @@ class Place:
 
 
 def is_open(text: str) -> bool:
-    """Whether a string, a comment or a bracket has begun that does not end in the text."""
+    """Whether a string, a comment or a bracket is still open at the end of the text."""
     stack: list[str] = []
     for token in tokens(text):
         if token.kind.startswith("open"):
@@ -56,7 +56,7 @@ def is_open(text: str) -> bool:
 
 
 def may_go_on(text: str) -> bool:
-    """Whether a text is no whole one yet, and may become one by what follows it."""
+    """Whether a text is not yet whole, and may become so by more text."""
     found = list(tokens(text))
     if found and found[-1].kind.startswith("open"):
         return True
@@ -68,8 +68,7 @@ def may_go_on(text: str) -> bool:
 
 
 def find(text: str, code: str) -> Place | None:
-    """The first place that explains the code by which the text was refused; None where nothing
-    does."""
+    """The first place that explains the code of the refusal; None if nothing does."""
     all_tokens = [it for it in tokens(text) if it.kind != "comment"]
     judges = {
         "XPST0017": _function,
@@ -94,7 +93,7 @@ def _reading(found: Sequence[Token], text: str) -> grammar.Reading | None:
 
 
 def _kinds(token: Token, after: Token | None) -> frozenset[str]:
-    """What a token is, as the grammar calls it."""
+    """The names that the grammar has for a token."""
     quoted = f'"{token.text}"'
     match token.kind:
         case "string":
@@ -114,7 +113,7 @@ def _begins_step(token: Token) -> bool:
 
 
 def _unexpected(text: str, found: list[Token]) -> Place | None:
-    """The first token that fits nowhere, with what would; or the end, where the text is cut."""
+    """The first token that fits nowhere, with what would fit; or the end, if the text is cut."""
     reading = _reading(found, text)
     if reading is None:
         return _bracket(found)
@@ -138,7 +137,7 @@ def _shown(token: Token) -> str:
 
 
 def _wanted(reading: grammar.Reading) -> str:
-    """What may stand at a place, in words: words and symbols first, and then kinds of them."""
+    """What may come at a place, in words: keywords and symbols first, and then kinds of tokens."""
     rest, said = set(reading.expected), []
     for words, signs, kinds in _kinds_told():
         if signs <= rest:
@@ -152,7 +151,8 @@ def _wanted(reading: grammar.Reading) -> str:
 
 @cache
 def _kinds_told() -> tuple[tuple[str, frozenset[str], frozenset[str]], ...]:
-    """What is said where some signs may stand, these signs, and all that it stands for."""
+    """A description, the signs that it stands for if all of them may come, and the other tokens
+    that it covers."""
     operand = grammar.Reader(grammar.language()).expected()
     after = grammar.Reader(grammar.language(), ("INTEGER",)).expected() - {'","'}
     clauses = frozenset(f'"{it}"' for it in (
@@ -182,13 +182,14 @@ def _no_token(found: Iterable[Token]) -> Place | None:
         if token.kind == "other":
             return Place(token.at, f"no token begins with {token.text!r}")
         if before and before.kind == "number" and _follows_number(before, token):
-            return Place(token.at, f"{_shown(token)} follows a number at once; a space parts them")
+            return Place(token.at, f"{_shown(token)} follows a number directly; put a space "
+                         "between them")
         before = token
     return None
 
 
 def _follows_number(number: Token, token: Token) -> bool:
-    """Whether a token that may not stand at once behind a number does so."""
+    """Whether a token follows a number directly although it may not."""
     is_near = number.at + len(number.text) == token.at
     return is_near and (token.kind in ("name", "number") or token.text in (".", ".."))
 
@@ -228,12 +229,12 @@ def _bracket(found: list[Token]) -> Place | None:
                 return Place(token.at, f"this {token.text} closes nothing")
             opened = stack.pop()
             if opened.text != _PAIRS[token.text]:
-                return Place(token.at, f"this {token.text} stands where a {opened.text} is open")
+                return Place(token.at, f"this {token.text} doesn't close the open {opened.text}")
     return Place(stack[-1].at, f"this {stack[-1].text} is not closed") if stack else None
 
 
 def _calls(found: list[Token]) -> Iterator[tuple[int, Token]]:
-    """The names that are called, each with its number among the tokens."""
+    """The names that are called, each with the index of its token."""
     for number, (token, after) in enumerate(zip(found, found[1:], strict=False)):
         before = found[number - 1].text if number else ""
         if token.kind == "name" and after.text == "(" and before not in ("$", "::", "@"):
@@ -253,7 +254,7 @@ def _function(found: list[Token]) -> Place | None:
         least, most = known[local]
         if count is None:
             continue
-        # What stands before an arrow is an argument too.
+        # The expression before an arrow is an argument too.
         count += number > 0 and found[number - 1].text == "=>"
         if not (least <= count and (most is None or count <= most)):
             return Place(token.at, f"{token.text} takes {_numbers(least, most)}, not {count}")
@@ -266,7 +267,7 @@ def _numbers(least: int, most: int | None) -> str:
 
 
 def _arguments(found: list[Token], first: int) -> int | None:
-    """How many arguments stand in the bracket that begins there; None where it does not close."""
+    """The number of arguments in the bracket that begins there; None if it isn't closed."""
     depth, commas = 0, 0
     for number in range(first, len(found)):
         token = found[number]
@@ -317,8 +318,7 @@ def _near(name: str, known: object, before: str = "") -> str:
 
 
 def shown(text: str, code: str) -> str:
-    """The place that explains a refusal, with its line and a mark below; empty where there is
-    none."""
+    """The place that explains a refusal, with its line and a mark below; empty if there is none."""
     place = find(text, code)
     return "" if place is None else marked(text, place)
 

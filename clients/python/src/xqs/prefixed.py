@@ -1,19 +1,19 @@
 """Queries with prefixes over documents that were stored with flat names, and their results.
 
-A document that is loaded by `--names flat` has `dc__title` for `dc:title`. Here a query may be
-written as one writes it elsewhere, and its results are shown so:
+A document that was loaded with `--names flat` has `dc__title` for `dc:title`. Here a query may use
+the usual names, and its results are shown with them:
 
     client.query('doc("a")//dc:title/@xlink:href', names="flat")
 
-It is made of these, for whoever asks by other ways:
+That combines these functions, which work for other transports too:
 
     text = client.query_text(flat_query("//dc:title"))
     prefixed_text(text)                             # element dc:title {..}, a query again
-    [prefixed(it) for it in values(text)]           # nodes with dc:title, strings as they are
+    [prefixed(it) for it in values(text)]           # nodes with dc:title, strings unchanged
 
 Names are mapped token by token: names of elements, attributes and processing instructions, in steps
-and in constructors; never what stands in a string or a comment, a variable, or a name that is
-called, as `xs:integer(..)`. Prefixes are compared, and no URIs.
+and in constructors; never strings, comments, variables, or names of functions, as `xs:integer(..)`.
+Prefixes are compared as written, not URIs.
 """
 
 from collections.abc import Iterable, Iterator
@@ -35,7 +35,7 @@ _WILDCARDS = {
 
 
 class PrefixFault(XqError, ValueError):
-    """A name of a query that no flat name stands for; `at` is its place in its `text`, from 0."""
+    """A name in a query that has no flat name; `at` is its place in its `text`, from 0."""
 
     def __init__(self, text: str, at: int, why: str) -> None:
         line, column = line_and_column(text, at)
@@ -46,14 +46,14 @@ class PrefixFault(XqError, ValueError):
 def flat_query(text: str) -> str:
     """The query with flat names in place of names with a prefix, and of `xmlns`.
 
-    PrefixFault for a name that flat names have no room for, as `a__b:c`, and for `p:*` and `*:a`,
-    which the language doesn't have. What is no query stays for the server to refuse.
+    Raises PrefixFault for a name that has no flat name, as `a__b:c`, and for `p:*` and `*:a`, which
+    the language doesn't have. The server refuses a text that is no query.
     """
     return flattened(text).text
 
 
 def flattened(text: str) -> Rewritten:
-    """As `flat_query`, with the places."""
+    """Like `flat_query`, and gives the places too."""
     return rewrite(text, (
         (it.at, it.at + len(it.text), _flat_name(text, it)) for it in _node_names(text)))
 
@@ -93,7 +93,7 @@ def _refuse_wildcard(text: str, found: list[Token]) -> None:
 
 
 def prefixed(item: Item) -> Item:
-    """An item of a result with prefixes in place of flat names; an atomic value as it is."""
+    """An item of a result, with prefixes in place of flat names; an atomic value is unchanged."""
     if not isinstance(item, Node):
         return item
     return Node(
@@ -104,8 +104,8 @@ def prefixed(item: Item) -> Item:
 
 
 def prefixed_events(steps: Iterable[Event], names: str = FLAT) -> Iterator[Event]:
-    """The events of a result with prefixes in place of flat names; as they are where `names` are
-    not flat."""
+    """The events of a result, with prefixes in place of flat names; unchanged unless `names` is
+    flat."""
     for event in steps:
         if names == FLAT and isinstance(event, Open | Leaf) and FLAT_COLON in event.name:
             yield replace(event, name=outgoing(event.name))
@@ -119,12 +119,12 @@ def asked(text: str, names: str) -> str:
 
 
 def told(printed: str, names: str) -> str:
-    """A printed result as it is shown: by `flat` with prefixes."""
+    """A printed result to show; with prefixes if `names` is `flat`."""
     return prefixed_text(printed) if is_flat(names) else printed
 
 
 def prefixed_text(printed: str) -> str:
-    """A printed result with prefixes in place of flat names; Misspelt where it is none."""
+    """A printed result with prefixes in place of flat names. Raises Misspelt if it is none."""
     if FLAT_COLON not in printed:
         return printed
     pieces: list[str] = []

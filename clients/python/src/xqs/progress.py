@@ -1,4 +1,4 @@
-"""A line on standard error that says how far a long command is."""
+"""A line on standard error with the progress of a long command."""
 
 import io
 import sys
@@ -9,14 +9,14 @@ from typing import TextIO
 
 _BAR = 20
 _BETWEEN = 0.1
-"""So many seconds lie between two drawings on a terminal, at least."""
+"""The least number of seconds between two drawings on a terminal."""
 MEGABYTES, NODES = "MB", "nodes"
 
 
 class Progress:
-    """What is done, of so many files and of such a size. It draws on a terminal alone.
+    """The progress through a number of files and a total size. It draws only on a terminal.
 
-    Where no size is known the bar goes by the files. The size is in bytes, or in nodes.
+    If no size is known the bar counts files. The size is in bytes or in nodes.
     """
 
     def __init__(
@@ -29,8 +29,8 @@ class Progress:
         self.begin(files, size, unit)
 
     def begin(self, files: int, size: int, unit: str = MEGABYTES, passes: int = 1) -> None:
-        """Begins again, with so many files and such a size, all of which is gone over so often:
-        each time counts for what is done."""
+        """Begins again, with a number of files and a size, of which all is read `passes` times;
+        each pass counts as work."""
         self._files, self._size, self._unit, self._passes = files, size * passes, unit, passes
         self._start = time.monotonic()
         self.done = self.bytes = self.refused = self.skipped = 0
@@ -42,13 +42,13 @@ class Progress:
         return time.monotonic() - self._start
 
     def skip(self, size: int) -> None:
-        """A file was done before, and takes no time."""
+        """Counts a file that was done before and takes no time."""
         self._files -= 1
         self._size -= size
         self.skipped += 1
 
     def step(self, size: int, is_refused: bool = False) -> None:
-        """Another file of such a size is done."""
+        """Counts a file of this size as done."""
         self.done += 1
         self.refused += is_refused
         self.bytes += size
@@ -56,13 +56,13 @@ class Progress:
         self._draw()
 
     def reach(self, size: int) -> None:
-        """So much of the file at hand is done."""
+        """Notes how much of the current file is done."""
         self._at = max(self._at, size)
         self._draw()
 
     def reach_nodes(self, nodes: int, of: int) -> None:
-        """So many of the nodes of the file at hand are done; where no file was counted, it is the
-        one that all goes by."""
+        """Notes how many of the nodes of the current file are done; if no file was counted, it is
+        the only one."""
         if not self._files and (not self._size or self._unit == NODES):
             self._size, self._unit = of, NODES
             self.reach(nodes)
@@ -82,7 +82,7 @@ class Progress:
             self._stream.flush()
 
     def clear(self) -> None:
-        """Takes the line away."""
+        """Removes the line."""
         self.show("")
 
     def line(self) -> str:
@@ -97,7 +97,7 @@ class Progress:
         return f"{files}[{bar}] {self._rate()}, {time_left}{refused}"
 
     def _share(self) -> float:
-        """How much of all is done, from 0 to 1; 0 where it isn't known."""
+        """The share of the work that is done, from 0 to 1; 0 if unknown."""
         by_size, by_files = self.bytes + self._at, self.done + self._part
         done, of = (by_size, self._size) if self._size else (by_files, self._files)
         return min(done / of, 1.0) if of > 0 else 0.0
@@ -114,7 +114,7 @@ def silent() -> Progress:
 
 @contextmanager
 def progress_of(files: int = 0, size: int = 0) -> Iterator[Progress]:
-    """A progress whose line is taken away at the end, whatever ends it."""
+    """A context with a progress whose line is removed at the end, however it ends."""
     progress = Progress(files, size)
     try:
         yield progress

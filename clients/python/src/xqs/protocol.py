@@ -1,4 +1,4 @@
-"""Frames of requests and replies, as docs/PROTOCOL.md has them; nothing here reads or writes.
+"""Frames of requests and replies, as in docs/PROTOCOL.md. This module does no input or output.
 
 All lengths are in bytes. A *message* is what follows the four bytes of a frame's length.
 """
@@ -16,7 +16,7 @@ MAX_REPLY_TEXT = 16_777_216
 MAX_REPLY = MAX_REPLY_TEXT + 5
 """The longest message of a reply: tag, status and text."""
 FRAME_LIMIT = 1_000_000
-"""So many frames a server answers before it ends."""
+"""How many frames a server answers before it ends."""
 MAX_ADDRESS = 200
 """The longest address."""
 MAX_NODES = 1_000_000
@@ -50,16 +50,16 @@ class Status(int, Enum):
 
 
 class FrameFault(XqError, ValueError):
-    """A message that is too long, or too short for what it has to hold."""
+    """A message that is too long, or too short for its fields."""
 
 
 def is_address(raw: bytes) -> bool:
-    """Whether the bytes are an address."""
+    """Whether the bytes are a valid address."""
     return 1 <= len(raw) <= MAX_ADDRESS and _ADDRESS_BYTES.issuperset(raw)
 
 
 def address_bytes(address: str) -> bytes:
-    """The bytes of an address; NotAnAddress where it is none."""
+    """The bytes of an address. Raises NotAnAddress if it is invalid."""
     raw = address.encode("utf-8", "surrogatepass")
     if not is_address(raw):
         raise NotAnAddress(
@@ -71,26 +71,26 @@ def address_bytes(address: str) -> bytes:
 def store_body(address: str, query: str) -> bytes:
     """The body of a store: the address after its length, and the query.
 
-    NotAnAddress where the address is none, NoText where the query is none.
+    Raises NotAnAddress if the address is invalid, NoText if the query has no UTF-8.
     """
     raw = address_bytes(address)
     return bytes([len(raw)]) + raw + utf8(query)
 
 
 def utf8(text: str) -> bytes:
-    """The bytes of a text; NoText where it has none."""
+    """The bytes of a text. Raises NoText if it has no UTF-8."""
     try:
         return text.encode()
     except UnicodeEncodeError as error:
-        raise NoText(f"the text has no UTF-8: character {error.start + 1} is half a pair of "
-                     "surrogates") from error
+        raise NoText(f"the text has no UTF-8: character {error.start + 1} is an unpaired "
+                     "surrogate") from error
 
 
 def frame(tag: int, kind: Kind, body: bytes = b"") -> bytes:
-    """The frame of a request; FrameFault where it would be over the limit."""
+    """The frame of a request. Raises FrameFault if it would be above the limit."""
     length = len(body) + 5
     if length > MAX_REQUEST:
-        raise FrameFault(f"a request of {length:,} bytes, of which {MAX_REQUEST:,} are allowed")
+        raise FrameFault(f"a request of {length:,} bytes, over the limit of {MAX_REQUEST:,}")
     return _REQUEST_HEAD.pack(length, tag, kind.value) + body
 
 
@@ -105,9 +105,9 @@ def framed(message: bytes) -> bytes:
 
 
 def tag_of(message: bytes) -> int:
-    """The tag of a message; FrameFault where it is too short for one."""
+    """The tag of a message. Raises FrameFault if it is too short for one."""
     if len(message) < 5:
-        raise FrameFault(f"a message of {len(message)} bytes, which has no room for a tag")
+        raise FrameFault(f"a message of {len(message)} bytes, too short for a tag")
     tag: int = _LENGTH.unpack_from(message)[0]
     return tag
 
@@ -118,7 +118,7 @@ def with_tag(message: bytes, tag: int) -> bytes:
 
 
 class Splitter:
-    """The messages of a stream that comes in any pieces."""
+    """The messages of a stream that comes in pieces of any size."""
 
     def __init__(self, limit: int) -> None:
         """Messages have at most `limit` bytes."""
@@ -127,14 +127,14 @@ class Splitter:
 
     @property
     def is_inside(self) -> bool:
-        """Whether a frame has begun that has not come whole."""
+        """Whether a frame has come in part."""
         return bool(self._data)
 
     def feed(self, piece: bytes) -> Iterator[bytes]:
-        """Each message that is whole once the piece has come.
+        """Each message that this piece completes.
 
-        FrameFault where a length is over the limit; nothing after it can be read then. The
-        iterator is to be used up before the next piece is fed.
+        Raises FrameFault if a length is above the limit; nothing after it can be read then. Use the
+        iterator up before you feed the next piece.
         """
         self._data += piece
         at = 0

@@ -1,4 +1,4 @@
-"""Values that are put into a query: nobody pastes text.
+"""Values in a query, so that nobody pastes text into one.
 
 `q("doc($a)//b[@id = $id]", a="books", id=7)` is a query in which `$a` and `$id` are bound.
 """
@@ -11,7 +11,7 @@ from typing import TypeAlias
 from xqs.values import Item, Node, Untyped, quoted
 
 Value: TypeAlias = Item | Iterable[Item | None] | None
-"""What a query can be given: an item, several, or none."""
+"""A value for a query: an item, several items, or none."""
 
 NOT_XML = re.compile("[^\t\n\r\x20-\ud7ff\ue000-\ufffd\U00010000-\U0010ffff]")
 """A character that XML 1.0 doesn't have."""
@@ -20,12 +20,12 @@ _DECIMAL_BOUND = 10**19
 
 
 def q(query: str, /, **values: Value) -> str:
-    """The query with a variable bound to each value, under its name.
+    """The query with a variable for each value, under its name.
 
     Values are int, Decimal, str, bool, Untyped, Node, an iterable of these, or None for the empty
-    sequence. TypeError for any other, as float is, since the server has no doubles; ValueError for
-    a number that is out of the server's range, a text with a character that XML 1.0 doesn't have,
-    and a name that is none of a variable.
+    sequence. Raises TypeError for any other, as float, since the server has no doubles; ValueError
+    for a number out of the server's range, a text with a character that XML 1.0 doesn't have, and a
+    name that no variable can have.
     """
     if not values:
         return query
@@ -40,7 +40,7 @@ def _variable(name: str) -> str:
 
 
 def literal(value: Value) -> str:
-    """A value as an expression that gives it; errors as for `q`."""
+    """A value as an expression that gives it; errors as in `q`."""
     match value:
         case bool():
             return "true()" if value else "false()"

@@ -1,5 +1,5 @@
 """The pieces of a document that is too long for one reply, found by sizes: children by ranges of
-their positions, long texts by ranges of their characters. Nothing is stored here."""
+positions, long texts by ranges of characters. Nothing is stored here."""
 
 from collections.abc import Iterator, Sequence
 from dataclasses import dataclass
@@ -10,25 +10,24 @@ from xqs.queries import q
 from xqs.values import PARENTS, Close, Event, Leaf, NodeKind, Open
 
 PIECE = 3_000_000
-"""So many characters of a text are asked for at once; each takes five bytes at most. A range of
-children is of about so many characters, too."""
+"""How many characters of a text are read at once; each takes five bytes at most. A range of
+children has about this many characters, too."""
 FEW_NODES, FEW_CHARACTERS = 20_000, 500_000
-"""A document with no more than these is asked for as a whole at once."""
+"""A document with no more nodes than this is read whole at once."""
 WHOLE = 10_000_000
-"""One of about so many characters, when it is printed, is asked for as a whole."""
+"""A document with about this many characters, when it is printed, is read whole."""
 AT_ONCE = 50_000
-"""The sizes of so many children are asked for at once: to find a range the server goes over all."""
+"""How many children's sizes are read at once: to find a range the server goes over all of them."""
 NODE_CHARACTERS = 40
-"""So many characters a node is taken to have, besides its text."""
+"""How many characters a node counts for, besides its text."""
 TOO_LONG = "prof:REPLY"
 _SIZES = (
     "(let $below := $n/descendant-or-self::node(), $attributes := $below/@*, "
     "$nodes := count($below) + count($attributes) return ($nodes, "
     f"$nodes * {NODE_CHARACTERS} + string-length(string($n)) + "
     "string-length(string-join($attributes))))")
-"""How many nodes there are in `$n`, and about how many characters it has when it is printed.
-(Comments and instructions aside: where they are long the reply is refused, and a part of it asked
-for.)"""
+"""The number of nodes in `$n`, and about how many characters they have when printed. (Comments and
+instructions don't count: if they are long the reply is refused, and smaller parts are read.)"""
 _KINDS = {
     NodeKind.DOCUMENT: "self::document-node()",
     NodeKind.ELEMENT: "self::element()",
@@ -40,21 +39,22 @@ _KINDS = {
 
 @dataclass(frozen=True, slots=True)
 class Piece:
-    """A piece of a document: nodes as the server prints them, or a step; and how many nodes begin
-    in it, more or less."""
+    """A piece of a document: nodes as the server prints them, or a step; and about how many nodes
+    begin in it."""
 
     part: str | Event
     nodes: int = 0
 
 
 def look(address: str) -> str:
-    """The query that gives a document that is short, and of another one its sizes."""
+    """The query that gives a short document, and the sizes of any other one."""
     return q(f"let $n := doc($a) return if (count($n/descendant::node()) <= {FEW_NODES} and "
              f"string-length(string($n)) <= {FEW_CHARACTERS}) then $n else {_SIZES}", a=address)
 
 
 def sizes_of(text: str) -> tuple[int, int] | None:
-    """How many nodes a document has, and about how many characters, where a look gave that."""
+    """The number of nodes of a document, and about how many characters they have, if a look gave
+    that."""
     if text.startswith(NodeKind.DOCUMENT):
         return None
     nodes, characters = text.split(", ")
@@ -62,12 +62,12 @@ def sizes_of(text: str) -> tuple[int, int] | None:
 
 
 def first_look(client: Client, address: str) -> str | int:
-    """The text of a document; how many nodes it has, where that is too long for a reply.
+    """The text of a document, or its number of nodes if it is too long for a reply.
 
-    Refused as FODC0002 where there is none.
+    Raises Refused with FODC0002 if there is none.
     """
     text = text_or_none(client, look(address))
-    if text is None:  # It has a long comment, or the like.
+    if text is None:  # It has a long comment or instruction.
         sizes_alone = client.query_text(q(f"let $n := doc($a) return {_SIZES}", a=address))
         return int(sizes_alone.partition(",")[0])
     sizes = sizes_of(text)
@@ -79,7 +79,7 @@ def first_look(client: Client, address: str) -> str | int:
 
 
 def text_or_none(client: Client, query: str) -> str | None:
-    """The reply's text; None where it would be too long."""
+    """The reply's text; None if it would be too long."""
     try:
         return client.query_text(query)
     except Refused as error:
@@ -90,8 +90,8 @@ def text_or_none(client: Client, query: str) -> str | None:
 
 @dataclass(frozen=True)
 class _Range:
-    """Children from one position to another, how many nodes they have with all below them, and
-    about how many characters."""
+    """Children from one position to another, the number of nodes in and below them, and about how
+    many characters these have."""
 
     first: int
     last: int
@@ -100,9 +100,9 @@ class _Range:
 
 
 class Pieces:
-    """Reads documents by pieces; each node is named by an expression.
+    """Reads documents by pieces; an expression stands for each node.
 
-    Changed where what is found belongs to no one document.
+    Raises Changed if the pieces belong to different states of the document.
     """
 
     def __init__(self, client: Client, address: str) -> None:
@@ -123,7 +123,7 @@ class Pieces:
         yield Piece(Close())
 
     def _head(self, path: str) -> tuple[NodeKind, str, int, int]:
-        """The kind and the name of a node, how many attributes it has, and how many children."""
+        """The kind and name of a node, its number of attributes, and its number of children."""
         asked = ", ".join(f"exists($n/{test})" for test in _KINDS.values())
         *found, name, attributes, children = self._client.query(
             f"let $n := {path} return ({asked}, name($n), count($n/@*), count($n/node()))")
@@ -143,7 +143,7 @@ class Pieces:
                     yield from self._range(path, it)
 
     def _sizes(self, path: str, first: int, last: int) -> list[tuple[int, int]]:
-        """Of each of some nodes how many it has, and about how many characters."""
+        """The number of nodes, and about how many characters, of each of some nodes."""
         numbers = self._client.query(
             f"for $n in {_positions(path, first, last)} return {_SIZES}")
         sizes = [it for it in numbers if isinstance(it, int)]
@@ -152,7 +152,7 @@ class Pieces:
         return list(zip(sizes[::2], sizes[1::2], strict=True))
 
     def _range(self, path: str, it: _Range) -> Iterator[Piece]:
-        """The nodes of a range, as one piece where a reply has room for them."""
+        """The nodes of a range, as one piece if they fit a reply."""
         text = text_or_none(self._client, _positions(path, it.first, it.last))
         if text == "()":
             raise Changed(self._address)
@@ -166,7 +166,7 @@ class Pieces:
             yield from self._range(path, _Range(middle + 1, it.last, it.nodes // 2, 0))
 
     def _value(self, path: str, kind: NodeKind, name: str) -> Iterator[Piece]:
-        """A long value: a text as several, any other node as one."""
+        """A long value: a text in several pieces, any other node as one."""
         pieces = self._characters(path)
         if kind is NodeKind.TEXT:
             yield from (Piece(Leaf(kind, name, piece)) for piece in pieces)
@@ -183,8 +183,8 @@ class Pieces:
 
 
 def ranges(first: int, sizes: Sequence[tuple[int, int]]) -> Iterator[_Range]:
-    """Ranges of nodes that are of a piece's size together, or of one node that is larger. `sizes`
-    has of each node, from the position `first` on, its nodes and its characters."""
+    """Ranges of nodes that together have the size of a piece, or of one larger node. `sizes` has
+    the nodes and characters of each node from the position `first` on."""
     begin, nodes, characters = first, 0, 0
     for position, (some, size) in enumerate(sizes, first):
         if position > begin and characters + size > PIECE:

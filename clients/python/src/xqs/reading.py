@@ -1,8 +1,8 @@
-"""Reads of clients, each of which one of several servers answers: which one, when, and what becomes
-of those that a server had when it ended.
+"""Which of several servers answers a client's read, when, and what happens to the reads of a server
+that ended.
 
-The reads of one client see no earlier documents than those before them, in the order of its frames,
-whichever servers they go to. While other clients are connected, no client has all servers.
+A read never sees earlier documents than the reads before it in the order of its client's frames,
+whatever servers they go to. While other clients are connected, no client occupies all servers.
 """
 
 import asyncio
@@ -17,20 +17,20 @@ from xqs.mux_peer import WANTING_STORE, Peer, Request
 from xqs.replica import Replica
 
 SLOW = 0.25
-"""Seconds from which on a query is remembered as a slow one."""
+"""A query that takes longer, in seconds, is remembered as slow."""
 FAST = 0.02
-"""Seconds up to which a query is remembered as a fast one."""
+"""A query that takes at most this time, in seconds, is remembered as fast."""
 DEPTH = 3
-"""So many reads are at a server at once, where those before the last one were fast before."""
+"""How many reads a server may have at once, if all but the last one were fast before."""
 REMEMBERED = 1_000
-"""So many slow queries are remembered, and so many fast ones."""
+"""How many slow queries are remembered, and how many fast ones."""
 LONGEST_KEY = 2_000
-"""A query of so many bytes is remembered by its text, a longer one by a digest."""
+"""A query up to this length in bytes is remembered by its text, a longer one by a digest."""
 
 
 @dataclasses.dataclass(eq=False, slots=True)
 class Turn:
-    """A read that waits for a server; `given` says that it has one, or needs none."""
+    """A read that waits for a server; `given` means that it has one, or needs none."""
 
     request: Request
     given: "asyncio.Future[None] | None" = None
@@ -39,18 +39,18 @@ class Turn:
 
 @dataclasses.dataclass(eq=False, slots=True)
 class Posed(Request):
-    """A read that is asked on behalf of a client; `done` gives the status and text of its reply."""
+    """A read on behalf of a client; `done` gives the status and text of its reply."""
 
     done: "asyncio.Future[bytes]" = dataclasses.field(
         default_factory=lambda: asyncio.get_running_loop().create_future())
 
 
 class Reading:
-    """The reads that wait, in their order, and those that servers have.
+    """The reads that wait, in order, and those that servers have.
 
-    A subclass says which servers there are. `depth` reads are at a server at once, whatever is
-    known of them. `on_read` gets each read with the reply that its client gets, `on_wanting` a
-    server that gave a reply of `store`; `on_large` is called after a reply of over `unread` bytes.
+    A subclass says which servers there are. A server may have `depth` reads at once, fast or not.
+    `on_read` gets each read with its client's reply, `on_wanting` a server that replied `store`.
+    `on_large` is called after a reply of more than `unread` bytes.
     """
 
     on_read: Callable[[Request, bytes], None] = staticmethod(lambda request, reply: None)
@@ -65,32 +65,32 @@ class Reading:
         self._slow: dict[bytes, None] = {}
         self._fast: dict[bytes, None] = {}
 
-    # ---- what a subclass says of its servers
+    # ---- what a subclass says about its servers
 
     def ready(self) -> Sequence[Replica]:
-        """The servers that are given reads."""
+        """The servers that take reads."""
         raise NotImplementedError
 
     def is_open(self, replica: Replica) -> bool:
-        """Whether a server can be given reads now, as far as its writes go."""
+        """Whether a server can take reads now, as far as its writes allow."""
         raise NotImplementedError
 
     def may_read(self, replica: Replica, request: Request, count: int) -> bool:
-        """Whether a server that is open can take this read; `count` servers are given reads."""
+        """Whether an open server can take this read; `count` servers take reads."""
         raise NotImplementedError
 
     def is_kept_back(self, replica: Replica) -> bool:
-        """Whether others are given reads before this server is."""
+        """Whether other servers take reads in preference to this one."""
         return False
 
     def place_of(self, replica: Replica) -> int:
-        """How many writes a read sees that this server is given now."""
+        """How many writes a read sees if this server takes it now."""
         raise NotImplementedError
 
-    # ---- which server a read is given
+    # ---- which server takes a read
 
     async def hand_over(self, request: Request) -> None:
-        """Takes a read of a client; comes back once a server has it."""
+        """Takes a read of a client; returns once a server has it."""
         turn = Turn(request)
         if self.waiting or not self._give(request, None):
             turn.given = asyncio.get_running_loop().create_future()
@@ -99,13 +99,13 @@ class Reading:
             await turn.given
 
     async def ask(self, peer: Peer, payload: bytes) -> bytes:
-        """The status and text of the reply to a read that is asked on behalf of a client."""
+        """The status and text of the reply to a read on behalf of a client."""
         posed = Posed(peer, 0, payload)
         await self.hand_over(posed)
         return await posed.done
 
     def dispatch(self) -> None:
-        """Gives those that wait the servers that are free, in their order."""
+        """Assigns free servers to the waiting reads, in order."""
         at, passed = 0, set[Peer]()
         while at < len(self.waiting):
             turn, before = self.waiting[at], self.waiting[at].request.place
@@ -126,13 +126,13 @@ class Reading:
                 at = 0
 
     def refuse_waiting(self, reply: bytes) -> None:
-        """Gives all reads that wait this reply, since no server will take them."""
+        """Gives all waiting reads this reply, since no server will take them."""
         while self.waiting:
             self._take_out(self.waiting.popleft(), reply)
 
     def forget_gone(self) -> None:
-        """Ends the connections of clients that have gone while their reads waited, so that these
-        take no server's time, and the connections no other client's place."""
+        """Disconnects clients that have gone while their reads waited, so that the reads take no
+        server's time, and the connections no other client's place."""
         for turn in list(self.waiting):
             peer = turn.request.peer
             if peer is not None and not peer.gone and peer.has_gone():
@@ -143,7 +143,7 @@ class Reading:
 
     @staticmethod
     def _take_out(turn: Turn, reply: bytes) -> None:
-        """Gives a read that waited this reply."""
+        """Gives a waiting read this reply."""
         if turn.given is None:
             settled(turn.request)
         elif not turn.given.done():
@@ -157,7 +157,7 @@ class Reading:
         return replica.reads < self._depth or replica.reads == replica.fast_reads < DEPTH
 
     def _give(self, request: Request, turn: Turn | None) -> bool:
-        """Puts a read into the line of a server; whether one is free for it."""
+        """Puts a read into the queue of a server. Returns whether a server is free for it."""
         is_new = turn is None or turn.given is not None
         replica = self._free(request, is_new)
         if replica is None or request.peer is None:
@@ -174,10 +174,10 @@ class Reading:
         return True
 
     def note_given(self, replica: Replica) -> None:
-        """A read is about to stand in the line of this server."""
+        """Called before a read enters the queue of this server."""
 
     def _free(self, request: Request, is_new: bool) -> Replica | None:
-        """A server for a read; `is_new` says that its client's reads don't count it yet."""
+        """A server for a read; `is_new` says that its client's counts don't include it yet."""
         ready = self.ready()
         free = [it for it in ready if it.reads < self._depth and self._takes(it, request, ready)]
         if not free or len(free) == 1 < len(ready) and self.has_its_share(
@@ -190,7 +190,7 @@ class Reading:
         return self.is_open(replica) and self.may_read(replica, request, len(ready))
 
     def _behind(self, request: Request, ready: Sequence[Replica]) -> Replica | None:
-        """A server whose reads were all fast before: it needs not wait for the next one."""
+        """A server whose reads were all fast before, so that the next one need not wait."""
         able = [it for it in ready if 0 < it.reads == it.fast_reads < DEPTH and not it.watchers
                 and self._takes(it, request, ready)]
         return min(able, key=lambda it: (it.reads, it.last_used)) if able else None
@@ -205,8 +205,8 @@ class Reading:
         return reads >= count - 1 and self.clients() > 1
 
     def _take_back(self, request: Request) -> bool:
-        """Has those reads asked once more that its client sent behind one that sees more writes
-        now than they did; whether some wait for that."""
+        """Repeats the reads that this client sent after one that now sees more writes than they
+        did. Returns whether some wait for that."""
         assert request.peer is not None
         is_any = False
         for later in reversed(request.peer.behind(request)):
@@ -224,7 +224,7 @@ class Reading:
     # ---- replies
 
     def take_reply(self, replica: Replica, request: Request, reply: bytes) -> None:
-        """A server has answered a read."""
+        """Takes the reply of a server to a read."""
         replica.reads -= 1
         replica.fast_reads -= request.is_fast
         self._remember(request, replica.backend.last_work)
@@ -239,7 +239,7 @@ class Reading:
             self.on_read(request, reply)
 
     def _remember(self, request: Request, seconds: float) -> None:
-        """Notes whether a query is a slow one, or a fast one."""
+        """Notes whether a query is slow or fast."""
         key = _key(request)
         for known, is_one in ((self._slow, seconds >= SLOW), (self._fast, seconds <= FAST)):
             if not is_one:
@@ -257,7 +257,7 @@ class Reading:
             self.on_large()
 
     def _again_or(self, request: Request, reply: bytes) -> None:
-        """Has a read asked once more, or gives it a reply where it was already."""
+        """Sends a read once more, or gives it a reply if that was done already."""
         if request.repeated:
             self.answer(request, reply)
         else:
@@ -266,7 +266,7 @@ class Reading:
 
     @staticmethod
     def _forget(request: Request, is_counted: bool) -> None:
-        """A read whose client has gone needs no reply."""
+        """Settles a read whose client has gone; it needs no reply."""
         if is_counted:
             settled(request)
         give(request, WANTING_STORE)
@@ -274,10 +274,10 @@ class Reading:
     # ---- a server that ended
 
     def release(self, replica: Replica, front_reply: bytes | None) -> None:
-        """A server has ended: what it had without a reply goes to others, or is answered.
+        """Takes the reads of a server that has ended: they go to others, or are answered.
 
-        `front_reply` is what the request gets that it was at, where that made it end; else None.
-        Where `why` says that the server was ended from here, that request is not to blame.
+        `front_reply` is the reply to the read that made the server end, if one did; else None. If
+        the server was ended from here for the reason `why`, that read is not to blame.
         """
         in_flight = replica.backend.in_flight
         front = in_flight[0] if in_flight and not in_flight[0].unsent else None
@@ -288,11 +288,11 @@ class Reading:
             self.settle_front(replica, front, front_reply)
 
     def put_back(self, request: Request) -> None:
-        """A server had this request in its line when it ended, and did nothing of it."""
+        """Passes on a request in the queue of a server that ended before it began it."""
         self.waiting.appendleft(Turn(request))
 
     def settle_front(self, replica: Replica, front: Request, reply: bytes | None) -> None:
-        """Settles the request that a server was at when it ended."""
+        """Settles the request that a server worked on when it ended."""
         if replica.left is front:
             self._forget(front, True)
         elif reply is not None:
@@ -304,7 +304,7 @@ class Reading:
 
 
 def settled(request: Request) -> None:
-    """Counts a request no more among those of its client that have no reply."""
+    """Removes a request from its client's counts of those without a reply."""
     if request.peer:
         request.peer.settle(request)
 

@@ -1,7 +1,7 @@
-"""One of several servers that carry the same writes: its process, and the line of its requests.
+"""One of several servers that carry the same writes: its process, and its queue of requests.
 
-A server carries out one request after the other, so what stands in its line before a read is what
-the read sees. A node's server and those of `xqs mux` are such ones.
+A server carries out one request after another, so a read sees what is before it in the queue. The
+servers of a node and of `xqs mux` are such replicas.
 """
 
 import asyncio
@@ -16,43 +16,43 @@ from xqs.mux_peer import Request
 from xqs.protocol import Kind, is_address
 
 HELD = 0.05
-"""A server that is at a request for so many seconds is given no read behind it."""
+"""A server that has worked on a request for longer, in seconds, gets no read behind it."""
 BETWEEN_LOOKS = 0.01
-"""Seconds between two looks whether a line is empty."""
+"""Seconds between two checks whether a queue is empty."""
 IN_PIPE = 8
-"""So many requests of a line are sent ahead; the others wait here."""
+"""How many requests of a queue are sent ahead; the others wait here."""
 GATHERED = 0.002
-"""A write that another server has carried out waits so many seconds for others to go with it."""
+"""How many seconds the copy of a write waits for others, with which it is sent."""
 
 
 class State(Enum):
-    """What a server can be given."""
+    """What a server can take."""
 
     DOWN = "down"
-    """Nothing: it is not there."""
+    """Nothing: it doesn't run."""
     FILLING = "filling"
     """Nothing: it doesn't hold all documents yet."""
     READY = "ready"
     """Reads, and copies of writes."""
     LEAVING = "leaving"
-    """Writes alone: it ends once the reads that it has are answered."""
+    """Only writes: it ends once its reads are answered."""
 
 
 HOLDING = (State.READY, State.LEAVING)
-"""A server in such a state holds all documents."""
+"""The states in which a server holds all documents."""
 
 
 @dataclasses.dataclass(eq=False, slots=True)
 class Copy(Request):
-    """A write that another server has carried out in so many seconds; `expected` is the reply that
-    it gave."""
+    """A write that another server has carried out, in `seconds`; `expected` is that server's
+    reply."""
 
     expected: bytes = b""
     took: float = 0.0
 
 
 def address_of(payload: bytes) -> bytes:
-    """The address of a store or a drop; nothing where it has none."""
+    """The address of a store or drop; empty for other requests."""
     if payload[:1] == Kind.DROP:
         address = payload[1:]
     else:
@@ -61,20 +61,19 @@ def address_of(payload: bytes) -> bytes:
 
 
 class Watcher(Protocol):
-    """Who has to know which documents a server is told to change."""
+    """Code that must know which documents a server is told to change."""
 
     def changed(self, address: bytes) -> None:
-        """A write to the address stands in the line from now on."""
+        """A write to the address is in the queue from now on."""
 
 
 class Replica:
-    """A server and its line.
+    """A server and its queue.
 
-    `on_reply` gets each reply with its request. `reads` counts the reads
-    of clients in its line, `fast_reads` those that were fast before, `restarts` how often another
-    process took the place of one that ended. `why` says why it is to end, where that is known
-    before. It runs `command`, which may be `is_new`: then it is compared with another server before
-    it serves; `failure` is why it could not.
+    `on_reply` gets each reply with its request. `reads` counts the clients' reads in its queue,
+    `fast_reads` those that were fast before, `restarts` how often a new process replaced one that
+    ended. `why` is the reason why it must end, if known beforehand. It runs `command`; if that
+    `is_new`, the server is compared with another one before it serves. `failure` is why it failed.
     """
 
     def __init__(self, number: int, on_reply: Callable[["Replica", Request, bytes], None]) -> None:
@@ -101,12 +100,12 @@ class Replica:
 
     @property
     def name(self) -> str:
-        """How messages call it."""
+        """Its name in messages."""
         return f"server {self.number}"
 
     @property
     def backend(self) -> Backend:
-        """The process that runs, or ran last."""
+        """The current process, or the last one."""
         assert self._backend is not None
         return self._backend
 
@@ -122,7 +121,8 @@ class Replica:
 
     @property
     def is_held(self) -> bool:
-        """Whether it is at something that takes long, or has a store to carry out that did."""
+        """Whether it works on something that takes long, or has a store in its queue that took long
+        elsewhere."""
         return bool(self._slow) or bool(
             self.backend.in_flight) and self.backend.worked() > HELD
 
@@ -133,7 +133,7 @@ class Replica:
 
     @property
     def frames(self) -> int:
-        """How many frames its process was sent."""
+        """How many frames its process has been sent."""
         return self._backend.frames if self._backend else 0
 
     async def begin(self, command: Sequence[str], seconds: float | None,
@@ -153,8 +153,8 @@ class Replica:
         self._pump()
 
     def put(self, request: Request) -> None:
-        """Puts a request at the end of the line, which is sent on: at once, or, where copies of
-        writes are all that it has, together with those that come next."""
+        """Puts a request at the end of the queue, and sends the queue on. If it holds copies of
+        writes alone, they wait for others first."""
         self.line.append(request)
         self.line_bytes += len(request.payload)
         self._slow += isinstance(request, Copy) and request.took > HELD
@@ -181,7 +181,7 @@ class Replica:
         return await self.asked(payload).done
 
     def of_this_process(self) -> Callable[[bytes], Awaitable[bytes]]:
-        """Asks as `ask` does, and never another process that has taken the place of this one."""
+        """Like `ask`, but never asks another process that has replaced this one."""
         backend = self.backend
 
         async def ask(payload: bytes) -> bytes:
@@ -192,20 +192,20 @@ class Replica:
         return ask
 
     def asked(self, payload: bytes) -> Own:
-        """Puts a request of this program into the line. Raises ServerEnded."""
+        """Puts a request of this program into the queue. Raises ServerEnded."""
         request = Own(None, 0, payload)
         self.put_own(request)
         return request
 
     def put_own(self, request: Own) -> None:
-        """Puts a request of this program at the end of the line. Raises ServerEnded."""
+        """Puts a request of this program at the end of the queue. Raises ServerEnded."""
         if not self.runs:
             raise ServerEnded(f"{self.name} has ended")
         self.put(request)
 
     def take_all(self) -> list[Request]:
-        """What has no reply of a process that has ended, in its order; nothing is left then. Those
-        that this program asked itself are told."""
+        """The requests without a reply of a process that has ended, in order; the queue is empty
+        then. This program's own requests get an error."""
         found = [*self.backend.in_flight, *self.line]
         self.backend.in_flight.clear()
         self.line.clear()
@@ -216,7 +216,7 @@ class Replica:
         return found
 
     async def finish(self) -> None:
-        """Ends the process in order, once it has answered all that stands in its line."""
+        """Ends the process in order, once it has answered its whole queue."""
         while self.line and self.runs:
             await asyncio.sleep(BETWEEN_LOOKS)
         await self.backend.finish()

@@ -1,14 +1,13 @@
-"""Servers that carry the same writes: all writes in one order, and each read to a server that is
-free.
+"""Servers that carry the same writes: all writes in one order, and each read at a free server.
 
-A write goes to the first server alone. Once that has carried it out, it stands in the line of each
-other one, and only then its client has the reply; what the first one refused is no change, and goes
-nowhere else. A read is put behind all these, and to the first server only where that has no write
-under way: so it sees just the writes that were answered before it was handed over, whichever server
-it goes to, and those of later reads are never fewer.
+A write goes to the first server alone. Once that has carried it out, it joins the queue of each
+other server, and only then its client gets the reply. A write that the first server refused is no
+change, and goes nowhere else. A read goes behind all these writes, and to the first server only if
+that has no write under way. So it sees exactly the writes that were answered before a server got
+it, whichever server that is, and later reads never see fewer.
 
-The frames of one client are carried out as if in their order: its reads wait for the writes before
-them, its writes for the reads.
+The frames of one client have the effect of their order: its reads wait for the writes before them,
+its writes for the reads.
 """
 
 import asyncio
@@ -26,25 +25,25 @@ from xqs.reading import Reading, settled
 from xqs.replica import HOLDING, Copy, Replica, State, address_of
 
 NO_ROOM = bytes([Status.WANTING]) + b"xqs:LINE"
-"""Too many writes wait in line, or one has waited for too long; nothing has changed."""
+"""Too many writes wait in the queue, or one has waited too long; nothing has changed."""
 STOPPED = bytes([Status.WANTING]) + b"xqs:DIFFER"
 """Servers gave different replies: nothing is written any more."""
 PATIENCE = 0.05
-"""Seconds that a read waits for the other servers before the writes leave it the first one."""
+"""How many seconds a read waits for the other servers before writes leave it the first one."""
 LINE_BYTES = 256 << 20
-"""So many bytes may stand in the line of a server; above that the writes wait."""
+"""How many bytes a server's queue may hold; above that writes wait."""
 WAITING_BYTES = 64 << 20
-"""So many bytes of writes may wait for the first server."""
+"""How many bytes of writes may wait for the first server."""
 
 
 class Replicas(Reading):
-    """The servers in their order, what waits for them, and the order of the writes.
+    """The servers in order, their queues, and the order of the writes.
 
-    `first` is the one that carries out writes before the others. `place` is how many writes were
-    carried out. `doubtful` is a write that the first server may have carried out or not, which has
-    to be known before anything else is written. `on_differ` gets what two servers answered
-    differently, `on_unfit` one that could not carry out a copy, `on_change` each write that was
-    carried out.
+    `first` is the server that carries out writes before the others. `place` is the number of writes
+    carried out. `doubtful` is a write that the first server may have carried out or not; nothing
+    else is written until that is known. `on_differ` gets different answers of two servers,
+    `on_unfit` a server that could not carry out a copy, `on_change` each write that was carried
+    out.
     """
 
     on_unfit: Callable[[Replica, str], None] = staticmethod(lambda replica, why: None)
@@ -69,17 +68,17 @@ class Replicas(Reading):
         self._quiet.set()
 
     def holding(self, but: Replica | None = None) -> list[Replica]:
-        """The servers that hold all documents, but for one of them."""
+        """The servers that hold all documents, except one of them."""
         return [it for it in self.all
                 if it is not but and it.runs and it.state in HOLDING]
 
     def ready(self) -> list[Replica]:
-        """The servers that are given reads."""
+        """The servers that take reads."""
         return [it for it in self.all if it.state is State.READY and it.runs]
 
     async def handle(self, request: Request) -> None:
-        """Takes a frame of a client, in the order of its frames; comes back once the next one may
-        be taken."""
+        """Takes a frame of a client, in the order of its frames; returns once the next one may be
+        taken."""
         peer = request.peer
         assert peer is not None
         if request.changes():
@@ -102,7 +101,7 @@ class Replicas(Reading):
             self.pump()
 
     def pump(self) -> None:
-        """Sends the first server what it can be sent of the writes that wait."""
+        """Sends the first server as many of the waiting writes as it takes."""
         first = self.first
         while self.writes and self._can_write(first):
             request = self.writes.popleft()
@@ -121,8 +120,8 @@ class Replicas(Reading):
                 and all(it.line_bytes < LINE_BYTES for it in self.all if it is not first))
 
     def _wants_first(self) -> bool:
-        """Whether a read waits for the first server, so that the writes leave it a turn: where no
-        other one reads, or it has waited for long."""
+        """Whether a read waits for the first server, so that the writes leave it a turn: if no
+        other server takes reads, or if it has waited long."""
         if not self.waiting:
             return False
         ready, turn = self.ready(), self.waiting[0]
@@ -135,27 +134,27 @@ class Replicas(Reading):
                     or self.has_its_share(turn.request, turn.given is not None, len(ready)))
 
     def is_open(self, replica: Replica) -> bool:
-        """Whether no write is under way at a server that has to carry it out before the others."""
+        """Whether no write is under way at the server that must carry it out before the others."""
         return replica is not self.first or replica.waiting == replica.reads
 
     def may_read(self, replica: Replica, request: Request, count: int) -> bool:
-        """Whether a server can take the read: the first one only where no write would wait for it
-        for long, as far as that is known."""
+        """Whether a server can take the read: the first server only if no write would wait long for
+        the read, as far as that is known."""
         if replica is not self.first:
             return not replica.is_held
         has_turn = not self.writes or bool(self._holds) or self._wants_first()
         return has_turn and not (count > 1 and self.is_slow(request))
 
     def is_kept_back(self, replica: Replica) -> bool:
-        """Whether it is the first server, for which the writes wait."""
+        """Whether it is the first server, which writes wait for."""
         return replica is self.first
 
     def place_of(self, replica: Replica) -> int:
-        """How many writes were carried out: they stand in the lines of all servers."""
+        """The number of writes carried out: they are in the queues of all servers."""
         return self.place
 
     def on_reply(self, replica: Replica, request: Request, reply: bytes) -> None:
-        """A server has answered a request."""
+        """Takes a server's reply to a request."""
         if isinstance(request, Copy):
             self._copied(replica, request, reply)
         elif isinstance(request, Own):
@@ -185,7 +184,7 @@ class Replicas(Reading):
             self._quiet.set()
 
     def spread(self, payload: bytes, reply: bytes) -> None:
-        """A write was carried out by the first server: all others have it from now on."""
+        """Passes a write that the first server carried out to all others."""
         self.place += 1
         self.changes.note(address_of(payload))
         took = self.first.backend.last_work
@@ -203,8 +202,8 @@ class Replicas(Reading):
 
     @asynccontextmanager
     async def still(self) -> AsyncIterator[None]:
-        """Nothing is written meanwhile: each write was carried out, and stands in all lines, or
-        waits."""
+        """A context in which nothing is written: each write was carried out and is in all queues,
+        or waits."""
         self._holds += 1
         try:
             await self._quiet.wait()
@@ -214,7 +213,7 @@ class Replicas(Reading):
             self.pump()
 
     def refuse_writes(self, reply: bytes, before: float = float("inf")) -> int:
-        """Refuses the writes that wait and came before a time; how many."""
+        """Refuses the waiting writes that came before a time. Returns their number."""
         late = [it for it in self.writes if it.since < before]
         for request in late:
             self.writes.remove(request)
@@ -223,7 +222,7 @@ class Replicas(Reading):
         return len(late)
 
     def put_back(self, request: Request) -> None:
-        """A server had this request in its line when it ended, and did nothing of it."""
+        """Passes on a request in the queue of a server that ended before it began it."""
         if not request.changes():
             super().put_back(request)
             return
@@ -232,7 +231,7 @@ class Replicas(Reading):
         self._writes_bytes += len(request.payload)
 
     def settle_front(self, replica: Replica, front: Request, reply: bytes | None) -> None:
-        """Settles the request that a server was at when it ended."""
+        """Settles the request that a server worked on when it ended."""
         if not front.changes():
             super().settle_front(replica, front, reply)
             return
@@ -240,8 +239,9 @@ class Replicas(Reading):
         self._settle_write(replica, front, reply)
 
     def _settle_write(self, replica: Replica, front: Request, reply: bytes | None) -> None:
-        """Settles the write that the first server was at. In a file it may be carried out: its
-        client sees its stream end. In memory it is gone with that server, and in no other one."""
+        """Settles the write that the first server worked on. In a file it may be carried out, so
+        its client's stream ends. In memory it is lost with that server, and no other server has
+        it."""
         if self.on_file:
             self.doubtful = front
             settled(front)
@@ -255,7 +255,7 @@ class Replicas(Reading):
             self._writes_bytes += len(front.payload)
 
     def lose(self) -> None:
-        """All documents are lost, and each client's stream ends: what waits is for nobody."""
+        """All documents are lost and each client's stream ends, so drops what waits."""
         self.place += 1
         self.changes.begin_anew()
         self.doubtful = None

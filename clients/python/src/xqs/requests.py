@@ -1,4 +1,4 @@
-"""Requests under way, by their tags: what the clients for threads and for asyncio share."""
+"""Requests under way, by their tags, for the clients of threads and of asyncio."""
 
 import asyncio
 import itertools
@@ -14,15 +14,15 @@ from xqs.protocol import Kind, Status
 from xqs.values import Item, values
 
 TOO_SLOW = "xqs:SECONDS"
-"""The code by which a multiplexer refuses a request that its server was too long at."""
+"""The code of a multiplexer's refusal of a request that took too long."""
 SHOWN = 60
-"""So many characters of a request stand in a message about it."""
+"""How many characters of a request a message shows."""
 
 
 @dataclass(frozen=True, slots=True)
 class Request:
-    """A request: its kind, its body, what it asks, as messages show it, and of a change the
-    address."""
+    """A request: its kind, its body, its description for messages, and the address if it is a
+    change."""
 
     kind: Kind
     body: bytes
@@ -31,28 +31,29 @@ class Request:
 
     @property
     def changes(self) -> bool:
-        """Whether it may change documents; what doesn't can be asked again."""
+        """Whether it may change documents; any other request can be repeated."""
         return self.kind in (Kind.STORE, Kind.DROP)
 
 
 def query_of(text: str) -> Request:
-    """Asks for the value of a query; NoText where it has no UTF-8."""
+    """Asks for the value of a query. Raises NoText if it has no UTF-8."""
     return Request(Kind.QUERY, protocol.utf8(text), text)
 
 
 def store_of(address: str, text: str) -> Request:
-    """Asks to store the document that a query gives; NotAnAddress where the address is none."""
+    """Asks to store the document that a query gives. Raises NotAnAddress if the address is
+    invalid."""
     return Request(Kind.STORE, protocol.store_body(address, text), f"store {address}", address)
 
 
 def drop_of(address: str) -> Request:
-    """Asks to drop a document; NotAnAddress where the address is none."""
+    """Asks to drop a document. Raises NotAnAddress if the address is invalid."""
     return Request(Kind.DROP, protocol.address_bytes(address), f"drop {address}", address)
 
 
 LIST = Request(Kind.LIST, b"", "list")
 PROBE = query_of("()")
-"""What a server answers as soon as it has opened its store."""
+"""A request that a server answers as soon as it has opened its store."""
 
 
 Items: TypeAlias = list[Item]
@@ -60,12 +61,12 @@ Addresses: TypeAlias = list[str]
 
 
 def addresses_of(text: str) -> Addresses:
-    """The addresses that the reply to a list spells."""
+    """The addresses in the reply to a list."""
     return [it for it in values(text) if isinstance(it, str)]
 
 
 class Settled(Protocol):
-    """What is common to the futures of threads and of asyncio."""
+    """What the futures of threads and of asyncio have in common."""
 
     def done(self) -> bool: ...
 
@@ -81,8 +82,8 @@ F = TypeVar("F", bound=Settled)
 
 @dataclass(slots=True)
 class Waiting(Generic[F]):
-    """A request that waits for its reply: `seconds` is how long the server may be at it, None for
-    any time, `is_repeated` whether it has been asked once more."""
+    """A request that waits for its reply: `seconds` is how long the server may take, None for any
+    time; `is_repeated` says whether it has been sent once more."""
 
     request: Request
     future: F
@@ -91,17 +92,17 @@ class Waiting(Generic[F]):
 
     @property
     def is_dead(self) -> bool:
-        """Whether nobody awaits the reply any more."""
+        """Whether nobody waits for the reply any more."""
         return self.future.done()
 
     def fail(self, error: Exception) -> None:
-        """Settles the future by an error, unless it is settled."""
+        """Gives the future an error, unless it is done."""
         if not self.future.done():
             with suppress(InvalidStateError):
                 self.future.set_exception(error)
 
     def answer(self, message: bytes) -> None:
-        """Settles the future by a reply."""
+        """Gives the future the reply."""
         try:
             text = _text(self.request, message)
         except XqError as error:
@@ -113,11 +114,11 @@ class Waiting(Generic[F]):
 
 
 class InFlight(Generic[F]):
-    """The requests that wait for their replies, oldest first, which is the one that the server is
-    at; and the addresses that were stored by them, and not dropped.
+    """The requests that wait for their replies, oldest first (the server works on the oldest), and
+    the addresses that were stored by them and not dropped.
 
-    One thread may take replies while another one begins a request: each step is one of a dict, and
-    wants no lock.
+    One thread may take replies while another begins a request: each step is one operation of a
+    dict, and needs no lock.
     """
 
     def __init__(self) -> None:
@@ -138,13 +139,13 @@ class InFlight(Generic[F]):
                 continue
 
     def has_changes(self) -> bool:
-        """Whether a change is under way whose reply somebody awaits."""
+        """Whether a change is under way whose reply somebody waits for."""
         return any(it.request.changes and not it.is_dead for it in list(self._waiting.values()))
 
     def begin(self, waiting: Waiting[F]) -> bytes:
-        """The frame of a request, whose reply is awaited from now on.
+        """The frame of a request, whose reply is expected from now on.
 
-        FrameFault where the frame is too long; nothing waits then.
+        Raises FrameFault if the frame is too long; then nothing is expected.
         """
         tag = next(self._tags)
         data = protocol.frame(tag, waiting.request.kind, waiting.request.body)
@@ -154,11 +155,11 @@ class InFlight(Generic[F]):
         return data
 
     def due(self, seconds: float | None) -> float | None:
-        """When the server has been at the oldest request for so long; None for never."""
+        """When the server will have worked too long on the oldest request; None for never."""
         return None if seconds is None or not self._waiting else self._since + seconds
 
     def replied(self, message: bytes) -> Waiting[F]:
-        """The request of a reply, which waits no longer; KeyError where there is none."""
+        """The request of a reply, which no longer waits. Raises KeyError if there is none."""
         waiting = self._waiting.pop(protocol.tag_of(message))
         self._since = time.monotonic()
         request = waiting.request
@@ -168,8 +169,8 @@ class InFlight(Generic[F]):
         return waiting
 
     def take_missing(self, listed: "Future[str] | asyncio.Future[str]") -> set[str]:
-        """Of the addresses that were stored those that a list doesn't have; they count as stored no
-        longer. None, where the list was refused."""
+        """The stored addresses that a list doesn't have; they no longer count as stored. None if
+        the list was refused."""
         if listed.exception():
             return set()
         missing = self.stored - set(addresses_of(listed.result()))
@@ -177,7 +178,7 @@ class InFlight(Generic[F]):
         return missing
 
     def take_all(self) -> list[Waiting[F]]:
-        """All that wait, oldest first; none waits any more."""
+        """All that wait, oldest first; afterwards none waits."""
         waiting = list(self._waiting.values())
         self._waiting.clear()
         return waiting
@@ -187,7 +188,7 @@ def _text(request: Request, message: bytes) -> str:
     try:
         text = message[5:].decode()
     except UnicodeDecodeError as error:
-        raise Closed(f"the stream is no server's: a reply that is not UTF-8 ({error})") from error
+        raise Closed(f"the other end is not a server: a reply is not UTF-8 ({error})") from error
     match message[4]:
         case Status.DONE:
             return text
@@ -199,4 +200,4 @@ def _text(request: Request, message: bytes) -> str:
 
 
 TextFuture: TypeAlias = Future[str]
-"""Gives the text of a reply."""
+"""A future of the text of a reply, or of the error that it means."""

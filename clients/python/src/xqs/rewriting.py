@@ -1,4 +1,4 @@
-"""Texts with some places of them replaced, and the way back to the places as they were written."""
+"""Texts with replacements, and the way back to places in the original text."""
 
 from collections.abc import Iterable
 from dataclasses import dataclass
@@ -6,13 +6,14 @@ from dataclasses import dataclass
 
 @dataclass(frozen=True)
 class Rewritten:
-    """A text after replacements: each with its end in this text, and how much longer it made it."""
+    """A text after replacements: the end of each in this text, and how much longer it made the
+    text."""
 
     text: str
     grown: tuple[tuple[int, int], ...] = ()
 
     def place(self, at: int) -> int:
-        """The place in the text as it was written of a place in this one."""
+        """The place in the original text of a place in this one."""
         longer = 0
         for end, by in self.grown:
             if end > at:
@@ -22,8 +23,8 @@ class Rewritten:
 
 
 def rewrite(text: str, replacements: Iterable[tuple[int, int, str]]) -> Rewritten:
-    """The text with other text between two places; replacements come in the order of their places,
-    and none reaches into the next one."""
+    """The text with other text between two places; replacements come in the order of their places
+    and don't overlap."""
     pieces: list[str] = []
     grown: list[tuple[int, int]] = []
     at = length = 0

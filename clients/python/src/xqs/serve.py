@@ -1,8 +1,8 @@
 """`xqs serve` and `xqs stop`: a multiplexer in the background for one file, by a socket beside it.
 
-The command starts itself once more, in a session of its own, and waits until that one says that it
-listens. Up to then a pipe holds the two together: where the command ends before, however it does,
-so does the one in the background, with its servers.
+The command starts itself again as a background process, in a session of its own, and waits until
+that one says that it listens. Until then a pipe connects the two: if the command ends before, in
+any way, the background process ends too, with its servers.
 """
 
 import argparse
@@ -35,21 +35,21 @@ BACKGROUND = "--background"
 READY, GO = b"ready\n", b"go\n"
 BEGIN_SECONDS, END_SECONDS = 600.0, 60.0
 MOST_LOG, KEPT_LOG = 1 << 20, 1 << 16
-"""A log that has grown over so many bytes is cut to its last ones."""
+"""A log that grows above this number of bytes is cut to its end."""
 BETWEEN_CUTS = 10.0
 SHOWN_LOG = 2_000
 
 
 class NotBegun(XqError):
-    """The file is not served, and why."""
+    """The file is not served; the message says why."""
 
 
 class NotEnded(XqError):
-    """The file is served still, and what to do."""
+    """The file is still served; the message says what to do."""
 
 
 def main(words: Sequence[str]) -> int:
-    """Carries out `xqs serve`; XqError, ValueError and OSError where it can't begin."""
+    """Runs `xqs serve`. Raises XqError, ValueError and OSError if it can't begin."""
     before, after = mux.split_command(words)
     given = _parser().parse_args(before)
     place, command = UnixSocket(str(socket_path(given.path))), _command(given, after)
@@ -69,17 +69,17 @@ def _parser() -> argparse.ArgumentParser:
     parser = argparse.ArgumentParser(
         prog="xqs serve", usage=USAGE, parents=[connection_options(file=False, kept=False)],
         description="Serves a file in the background, by a socket beside it (FILE.sock): each "
-        "command with --file FILE then asks there, and opens nothing anew. `xqs stop FILE` ends "
+        "command with --file FILE then connects to it and starts no server. `xqs stop FILE` ends "
         "it.")
     parser.add_argument("path", type=Path, metavar="FILE", help="the file of the documents")
     parser.add_argument("--foreground", action="store_true",
-                        help="stay, and end by a signal, as under a service manager")
+                        help="stay in the foreground, as under a service manager")
     parser.add_argument("--wait", type=bounds.seconds_of, metavar="N", default=BEGIN_SECONDS,
-                        help="how long the file may take to be opened (%(default)g seconds; 0: any "
+                        help="how long opening the file may take (%(default)g seconds; 0: any "
                         "time)")
     parser.add_argument("--log", type=Path, metavar="LOG",
-                        help="where it writes what it says in the background, the last megabyte "
-                        "(a file in ~/.local/state/xqs)")
+                        help="the file for its messages in the background, the last megabyte of "
+                        "them (a file in ~/.local/state/xqs)")
     parser.add_argument(BACKGROUND, action="store_true", help=argparse.SUPPRESS)
     mux.add_limits(parser)
     return parser
@@ -96,7 +96,7 @@ def _command(given: argparse.Namespace, after: Sequence[str]) -> list[str]:
 
 def _begin(given: argparse.Namespace, words: Sequence[str], place: UnixSocket,
            command: Sequence[str]) -> None:
-    """Starts it in the background, and waits until it listens. NotBegun."""
+    """Starts the background process, and waits until it listens. Raises NotBegun."""
     why = why_not_opened(command)
     if why:
         raise NotBegun(why)
@@ -116,14 +116,14 @@ def _begin(given: argparse.Namespace, words: Sequence[str], place: UnixSocket,
 
 
 def default_log(file: Path) -> Path:
-    """Where the log of a file lies, in the user's folder for states of programs."""
+    """The log of a file, in the user's state folder."""
     state = os.environ.get("XDG_STATE_HOME") or Path.home() / ".local" / "state"
     key = hashlib.sha256(os.fsencode(os.path.realpath(file))).hexdigest()[:16]
     return Path(state) / "xqs" / f"serve-{key}.log"
 
 
 def _started(words: Sequence[str], log: BinaryIO) -> "subprocess.Popen[bytes]":
-    """This program once more, in a session of its own."""
+    """Starts this program again, in a session of its own."""
     package = str(Path(__file__).resolve().parents[1])
     path = os.pathsep.join(filter(None, (package, os.environ.get("PYTHONPATH"))))
     return subprocess.Popen(
@@ -133,8 +133,8 @@ def _started(words: Sequence[str], log: BinaryIO) -> "subprocess.Popen[bytes]":
 
 
 def _wait_until_ready(background: "subprocess.Popen[bytes]", seconds: float | None) -> None:
-    """Waits until the one in the background listens, and lets it go. NotBegun where it ends, or
-    takes too long; it has ended then, and so it has where this is interrupted."""
+    """Waits until the background process listens, and lets it go. Raises NotBegun if it ends or
+    takes too long. Then it has ended, and also if this wait is interrupted."""
     assert background.stdin is not None and background.stdout is not None
     try:
         poller = select.poll()
@@ -155,11 +155,11 @@ def _wait_until_ready(background: "subprocess.Popen[bytes]", seconds: float | No
     background.stdout.close()
 
 
-# ---- what the one in the background does
+# ---- the background process
 
 
 def _hold_to_starter(log: Path) -> None:
-    """Ends this process where the one that started it ends before it has let this one go."""
+    """Ends this process if the one that started it ends before it has let this one go."""
     threading.Thread(target=_await_go, daemon=True, name="xqs starter").start()
     threading.Thread(target=_bound_log, args=(log,), daemon=True, name="xqs log").start()
 
@@ -188,7 +188,7 @@ def _bound_log(log: Path) -> None:
 
 
 def cut_log(log: Path) -> None:
-    """Leaves a log that has grown too long its last lines; who writes to it goes on behind them."""
+    """Cuts a log that has grown too long to its last lines; its writers continue after them."""
     if log.stat().st_size <= MOST_LOG:
         return
     with open(log, "r+b") as file:
@@ -203,15 +203,15 @@ def cut_log(log: Path) -> None:
 
 
 def stop_main(words: Sequence[str]) -> int:
-    """Carries out `xqs stop`; NotServed, NotEnded."""
+    """Runs `xqs stop`. Raises NotServed, NotEnded."""
     parser = argparse.ArgumentParser(
-        prog="xqs stop", description="Ends what `xqs serve` has begun, once it has answered what "
-        "it was asked before, and waits for that.")
+        prog="xqs stop", description="Ends the background server of `xqs serve`, once it has "
+        "answered its requests, and waits for its end.")
     parser.add_argument("path", type=Path, metavar="FILE", help="the file that is served")
     parser.add_argument("--now", action="store_true",
-                        help="end what it is at, too; a store under way may be carried out or not")
+                        help="end its requests too; a store under way may be carried out or not")
     parser.add_argument("--wait", type=bounds.seconds_of, metavar="N", default=END_SECONDS,
-                        help="how long its end is awaited (%(default)g seconds; 0: any time)")
+                        help="how long to wait for its end (%(default)g seconds; 0: any time)")
     given = parser.parse_args(words)
     place = UnixSocket(str(socket_path(given.path)))
     _end(given.path, place, given.now, given.wait)
@@ -230,13 +230,13 @@ def _end(path: Path, place: UnixSocket, is_now: bool, seconds: float | None) -> 
     poller = select.poll()
     poller.register(ended, select.POLLIN)
     if not poller.poll(None if seconds is None else seconds * 1000):
-        raise NotEnded(f"{path} is served still after {seconds:g} seconds, since process {process} "
-                       f"is at a request: `xqs stop --now {path}` ends that too, --wait N waits "
+        raise NotEnded(f"{path} is still served after {seconds:g} seconds, since process {process} "
+                       f"works on a request: `xqs stop --now {path}` ends that too, --wait N waits "
                        "longer")
     os.close(ended)
 
 
 def _process_at(place: UnixSocket) -> int:
-    """The process of the multiplexer at a socket. NotRunning."""
+    """The process number of the multiplexer at a socket. Raises NotRunning."""
     [process] = control.ask(str(place), "process")
     return int(process)

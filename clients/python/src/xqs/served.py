@@ -1,9 +1,9 @@
-"""A file in the background: a multiplexer serves it by a socket beside it, where each command that
-names the file finds it.
+"""A file in the background: a multiplexer serves it by a socket beside it, where each command with
+that file finds it.
 
-The socket of `x.db` is `x.db.sock` in the folder in which the file itself lies, whatever links lead
-there. It counts where it belongs to this user or to the file's owner, where a multiplexer answers
-behind it, and where that serves this file, and no other one that had its name before.
+The socket of `x.db` is `x.db.sock`, in the folder of the file itself, after all links. It counts if
+it belongs to this user or to the file's owner, and if a multiplexer answers there that serves this
+file, not an earlier one of the same name.
 """
 
 import json
@@ -22,30 +22,30 @@ from xqs.in_use import file_of
 
 SUFFIX = ".sock"
 LONGEST_PATH = 107
-"""A Unix socket's path has at most so many bytes."""
+"""The longest path of a Unix socket, in bytes."""
 BEGINNING = 2.0
-"""So many seconds a multiplexer that listens already may take until it can be asked."""
+"""How many seconds a multiplexer that listens may take until it answers requests."""
 LOOK = 0.05
 
 
 class NoSocket(XqError, OSError):
-    """A file that no socket can stand beside, and why."""
+    """A file that can't have a socket beside it; the message says why."""
 
 
 class NotThisFile(NotConnected):
-    """What listens beside a file does not serve it, and what to do."""
+    """The socket beside a file serves another one; the message says what to do."""
 
 
 @dataclass(frozen=True)
 class Identity:
-    """Which file it is: its device and number, whatever its name becomes."""
+    """The identity of a file: its device and inode, whatever its name."""
 
     device: int
     number: int
 
     @classmethod
     def of(cls, file: Path) -> "Identity | None":
-        """The identity of a file; None where there is none, or it can't be seen."""
+        """The identity of a file; None if there is none, or it can't be read."""
         try:
             found = file.stat()
         except OSError:
@@ -54,7 +54,7 @@ class Identity:
 
     @classmethod
     def told(cls, lines: Sequence[str]) -> "Identity | None":
-        """The identity that a multiplexer has said; None where it said none."""
+        """The identity in a multiplexer's answer; None if there is none."""
         try:
             device, number = json.loads(lines[0])
             return cls(int(device), int(number))
@@ -66,22 +66,22 @@ class Identity:
 
 
 def socket_path(file: Path) -> Path:
-    """Where the socket of a file stands; NoSocket where the path would be too long for one."""
+    """The path of a file's socket. Raises NoSocket if it would be too long."""
     whole = Path(os.path.realpath(file))
     path = whole.with_name(whole.name + SUFFIX)
     longest = len(os.fsencode(control.control_path(f"unix:{path}")))
     if longest > LONGEST_PATH:
         over = longest - LONGEST_PATH
-        raise NoSocket(f"{path}: a socket's path is {LONGEST_PATH} bytes long at most, and this is "
-                       f"{over} too long, with .control behind it: move the file to a folder with "
-                       "a shorter path")
+        raise NoSocket(f"{path}: a socket's path may have {LONGEST_PATH} bytes, and this one, with "
+                       f".control after it, has {over} too many: move the file to a folder with a "
+                       "shorter path")
     return path
 
 
 def socket_of(file: Path) -> UnixSocket | None:
-    """The socket by which a file is served; None where nobody serves it, or not for this user.
+    """The socket by which a file is served; None if nobody serves it, at least for this user.
 
-    NotThisFile where what listens there serves another file, or doesn't say which.
+    Raises NotThisFile if the server there serves another file, or doesn't say which.
     """
     try:
         path = socket_path(file)
@@ -93,15 +93,15 @@ def socket_of(file: Path) -> UnixSocket | None:
     identity = _identity_at(place)
     if identity is None:
         raise NotThisFile(f"{path}: something listens there that doesn't say which file it serves; "
-                          "end it, or take the socket away")
+                          "end it, or remove the socket")
     if identity != Identity.of(file):
-        raise NotThisFile(f"{file} is not the file any more that is served at {path}: it was moved "
-                          f"or replaced meanwhile; `xqs stop {file}` ends that server")
+        raise NotThisFile(f"{path} serves another file than {file}, which was moved or replaced "
+                          f"meanwhile; `xqs stop {file}` ends that server")
     return place
 
 
 def _is_trusted(path: Path, file: Path) -> bool:
-    """Whether a socket is there that this user, or the owner of the file, has made."""
+    """Whether there is a socket that belongs to this user or to the owner of the file."""
     try:
         found = path.lstat()
     except OSError:
@@ -115,20 +115,20 @@ def _is_trusted(path: Path, file: Path) -> bool:
 
 
 def _listens(path: Path) -> bool:
-    """Whether somebody listens at a socket to whom this user may connect."""
+    """Whether somebody listens at a socket that this user may connect to."""
     with socket.socket(socket.AF_UNIX) as probe:
         probe.settimeout(control.SECONDS)
         try:
             probe.connect(str(path))
         except TimeoutError:
-            return True  # It has more to do than it takes.
+            return True  # It has more clients waiting than it takes.
         except OSError:
             return False
     return True
 
 
 def _identity_at(place: UnixSocket) -> Identity | None:
-    """The file that the multiplexer at a socket says that it serves; None where it says none."""
+    """The file that the multiplexer at a socket says it serves; None if it says none."""
     end = time.monotonic() + BEGINNING
     while True:
         try:
@@ -149,9 +149,9 @@ class NotServed(XqError):
 
 
 def place_named(word: str) -> str:
-    """The place that a word names: as it is, or of a file the socket beside it.
+    """The place that a word names: itself, or for a file the socket beside it.
 
-    NotServed where nobody serves the file; NoSocket, NotThisFile.
+    Raises NotServed if nobody serves the file; NoSocket, NotThisFile.
     """
     if word.startswith(("unix:", "tcp:")):
         return word
@@ -163,8 +163,8 @@ def place_named(word: str) -> str:
 
 
 def asked_at(place: Endpoint) -> Endpoint:
-    """Where a place is asked: of a command whose file is served already the socket of that file,
-    else the place itself. NotThisFile."""
+    """The place to connect to: the socket of the file if a command names a file that is served,
+    else the place itself. Raises NotThisFile."""
     if not isinstance(place, Command):
         return place
     file = file_of(place.words)

@@ -1,4 +1,4 @@
-"""What a shell does with each text that is typed: a query, or a command that begins with a dot."""
+"""What a shell does with each text: a query, or a command that begins with a dot."""
 
 import shlex
 import sys
@@ -27,12 +27,12 @@ from xqs.xml_out import FLAT, KEEP, XmlWriter
 _ADDRESS_CALLS = ('doc("', "doc('", 'doc-available("', "doc-available('")
 _ADDRESS_COMMANDS = (".drop ", ".store ", ".get ")
 _YES = "--yes"
-"""The word by which a drop asks nothing."""
+"""The word by which a drop leaves its question out."""
 
 
 _HELP = (
-    "QUERY                     its value; Enter carries it out once it is whole, else it goes on",
-    "                          in the next line; an empty line or ; ends it in any case",
+    "QUERY                     its value; Enter runs it if it is whole, else it continues in the",
+    "                          next line; an empty line or ; ends it in any case",
     "Ctrl+C                    ends the query that runs",
 )
 
@@ -42,8 +42,8 @@ class Misused(XqError, ValueError):
 
 
 def completions(session: "Session", word: str, before: str) -> list[str]:
-    """What the word at the end of a text may go on to: addresses where one may stand, else the
-    names of commands, functions and keywords."""
+    """The completions of the word at the end of a text: addresses after `doc("` and the like, else
+    the names of commands, functions and keywords."""
     rest = before[: len(before) - len(word)]
     if rest.endswith(_ADDRESS_CALLS) or rest.startswith(_ADDRESS_COMMANDS):
         known = session.addresses()
@@ -57,7 +57,7 @@ def completions(session: "Session", word: str, before: str) -> list[str]:
 
 
 class Session:
-    """Carries out texts over one client."""
+    """Runs texts with one client."""
 
     def __init__(
         self,
@@ -67,7 +67,7 @@ class Session:
         names: str = "keep",
         say: Callable[[str], None] | None = None,
     ) -> None:
-        """`show` takes answers, `say` what is said about them, by default on standard error."""
+        """`show` takes answers; `say` takes messages, by default on standard error."""
         self._client, self._show = client, show
         self._say = say or (lambda text: print(text, file=sys.stderr))
         self._xml, self._timing = xml, False
@@ -76,33 +76,34 @@ class Session:
         self.is_ended = False
 
     def addresses(self) -> list[str]:
-        """The addresses of the moment; none where the server has ended."""
+        """The current addresses; none if the server has ended."""
         try:
             return self._client.list()
         except XqError:
             return []
 
     def interrupt(self) -> str:
-        """Ends what is under way, which nobody awaits any more; where documents in memory would be
-        lost by that, it goes on, and this says so."""
+        """Ends the requests under way, which nobody waits for any more. If that would lose
+        documents in memory, they go on, and a message says so."""
         if not (self._client.is_busy and self._client.is_losing):
             return ""
-        return "the server is at it still, since documents in its memory would be lost"
+        return "the query goes on, since ending it would lose documents in the server's memory"
 
     def wait(self) -> None:
-        """Waits for the end of what is under way."""
+        """Waits for the end of the requests under way."""
         try:
             self._client.query_text("()")
         except XqError as error:
             self._say(str(error))
 
     def begin_anew(self) -> str:
-        """Ends the server with what it is at, and begins another one; says what was lost."""
+        """Ends the server with its current request, and starts another one; reports what was
+        lost."""
         missing = self._client.restart()
         return "the query is ended" + (f"; {lost(missing)}" if missing else "")
 
     def run(self, text: str) -> bool:
-        """Carries out queries or a command; whether it was. What went wrong is said."""
+        """Runs queries or a command. Returns whether that succeeded; errors are reported."""
         done = True
         for part in parted(text):
             done = self._run_one(part) and done
@@ -137,7 +138,7 @@ class Session:
 
     @property
     def _shown_names(self) -> str:
-        """What becomes of names on the way out."""
+        """What happens to names on the way out."""
         return FLAT if self._names is Names.FLAT else KEEP
 
     def _command(self, text: str) -> bool:

@@ -1,5 +1,6 @@
-"""`xqs shell`: queries by hand. What it does without a terminal is in `session`; here are lines,
-history and completion, by prompt_toolkit where that is there, else by the standard library."""
+"""`xqs shell`: queries by hand. `session` has what works without a terminal; this module has the
+lines, history and completion, by prompt_toolkit if it is installed, else by the standard
+library."""
 
 import argparse
 import importlib.util
@@ -16,11 +17,11 @@ from xqs.shell_texts import Lines
 
 PROMPT, MORE = "xqs> ", "...> "
 _WORD = "_-.:$/@"
-"""Characters of a word that is completed, beside letters and digits."""
+"""The characters of a word to complete, besides letters and digits."""
 
 
 def history_path() -> Path:
-    """The file of what was typed before, in the user's folder for states of programs."""
+    """The file of earlier input, in the user's state folder."""
     state = os.environ.get("XDG_STATE_HOME") or Path.home() / ".local" / "state"
     path = Path(state) / "xqs" / "history"
     path.parent.mkdir(parents=True, exist_ok=True)
@@ -28,7 +29,7 @@ def history_path() -> Path:
 
 
 def word_before(text: str) -> str:
-    """The word at the end of a text that may be completed: of a string its beginning."""
+    """The word at the end of a text to complete; in a string, the string so far."""
     at = len(text)
     while at and (text[at - 1].isalnum() or text[at - 1] in _WORD):
         at -= 1
@@ -36,7 +37,7 @@ def word_before(text: str) -> str:
 
 
 def main(words: Sequence[str]) -> int:
-    """Carries out the command."""
+    """Runs the command."""
     given = _parser().parse_args(words)
     place = server_of(given)
     with connected(given, place) as client:
@@ -46,7 +47,7 @@ def main(words: Sequence[str]) -> int:
         if not sys.stdin.isatty():
             return _run_lines(session, sys.stdin)
         print(f"{client.place}; .help says more" + (
-            "" if is_lasting(place) else "; the documents are gone at the end"))
+            "" if is_lasting(place) else "; the documents are lost at the end"))
         for text in _typed(session, given.plain):
             _run_typed(session, text)
             if session.is_ended:
@@ -62,8 +63,8 @@ def _run_typed(session: Session, text: str) -> None:
 
 
 def _end_query(session: Session) -> None:
-    """Ends the query that was interrupted. Where documents in memory would be lost by that, it is
-    ended by a second interrupt alone, or by its bound."""
+    """Ends the query that was interrupted. If that would lose documents in memory, only a second
+    interrupt, or the query's bound, ends it."""
     warning = session.interrupt()
     if not warning:
         print("interrupted: what ran is ended", file=sys.stderr)
@@ -80,13 +81,13 @@ def _parser() -> argparse.ArgumentParser:
     words = argparse.ArgumentParser(
         prog="xqs shell",
         parents=[connection_options()],
-        description="Asks queries by hand. A query runs at Enter once it is whole, else it goes on "
-        "in the next line; an empty line or ; ends it. .help lists the commands.",
+        description="A shell for queries. Enter runs a query if it is whole, else it continues in "
+        "the next line; an empty line or ; ends it. .help lists the commands.",
     )
-    words.add_argument("-c", "--command", help="carry out this query or command, and end")
-    words.add_argument("--xml", action="store_true", help="begin with nodes as XML")
+    words.add_argument("-c", "--command", help="run this query or command, and end")
+    words.add_argument("--xml", action="store_true", help="show nodes as XML from the start")
     words.add_argument("--names", choices=["keep", "flat"], default="keep",
-                       help="flat turns p__a into p:a where nodes are XML")
+                       help="flat shows p__a as p:a in XML")
     words.add_argument("--plain", action="store_true", help="don't use prompt_toolkit")
     words.add_argument("--pager", action=argparse.BooleanOptionalAction, default=True,
                        help="show long replies by $PAGER, on a terminal")
@@ -94,7 +95,7 @@ def _parser() -> argparse.ArgumentParser:
 
 
 def _printer(pages: bool) -> Callable[[str], None]:
-    """What shows an answer: a pager, where it is longer than the terminal."""
+    """What shows an answer: a pager if it is longer than the terminal."""
 
     def show(text: str) -> None:
         columns, lines = shutil.get_terminal_size()
@@ -108,7 +109,7 @@ def _printer(pages: bool) -> Callable[[str], None]:
 
 
 def _run_lines(session: Session, lines: Iterator[str]) -> int:
-    """Carries out what comes from a file or a pipe; status 1 where something was refused."""
+    """Runs the texts of a file or a pipe; status 1 if something was refused."""
     read, status = Lines(is_typed=False), 0
     for line in lines:
         for text in read.take(line):
@@ -119,7 +120,7 @@ def _run_lines(session: Session, lines: Iterator[str]) -> int:
 
 
 def _typed(session: Session, plain: bool) -> Iterator[str]:
-    """What the user types, text by text, to the end."""
+    """The user's input, text by text, to the end."""
     if plain or importlib.util.find_spec("prompt_toolkit") is None:
         return _by_readline(session)
     from xqs.toolkit import typed

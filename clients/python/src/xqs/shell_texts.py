@@ -1,4 +1,4 @@
-"""The texts that the lines of a shell make: queries, parted by `;` or by lines, and commands, which
+"""The texts in the lines of a shell: queries, separated by `;` or by lines, and commands, which
 begin with a dot."""
 
 import re
@@ -10,8 +10,8 @@ from xqs.tokens import tokens
 
 @dataclass(frozen=True)
 class Command:
-    """A dot command: its words after the name, what it does, and the least and the greatest number
-    of words."""
+    """A dot command: its words after the name, what it does, and the least and greatest number of
+    words."""
 
     words: str
     summary: str
@@ -20,30 +20,30 @@ class Command:
 
 
 COMMANDS = {
-    ".list": Command("[PREFIX]", "the addresses that begin so, or match a pattern", 0, 1),
+    ".list": Command("[PREFIX]", "the addresses with a prefix, or that match a pattern", 0, 1),
     ".get": Command("ADDRESS", "a document, of any length", 1, 1),
     ".store": Command("ADDRESS FILE", "store a file of XML, or of a query", 2, 2),
-    ".drop": Command("[--yes] ADDRESS ..", "drop documents; of a pattern all, after a question",
-                     1, 1_000_000),
+    ".drop": Command("[--yes] ADDRESS ..",
+                     "drop documents, or after a question all that match a pattern", 1, 1_000_000),
     ".load": Command("DIR [PREFIX]", "store the XML files of a folder", 1, 2),
     ".export": Command("DIR [PREFIX]", "write documents to a folder as XML", 1, 2),
-    ".names": Command("refuse|flat|local", "what becomes of names with a colon", 1, 1),
+    ".names": Command("refuse|flat|local", "what happens to names with a colon", 1, 1),
     ".xml": Command("on|off", "nodes as XML, or as constructors", 1, 1),
     ".timing": Command("on|off", "say how long each answer takes", 1, 1),
-    ".read": Command("FILE", "carry out the queries and commands of a file", 1, 1),
+    ".read": Command("FILE", "run the queries and commands of a file", 1, 1),
     ".help": Command("", "this list", 0, 0),
     ".quit": Command("", "end; so does Ctrl+D", 0, 0),
 }
 
 END = ";"
-"""What ends a query; no token of the language begins with it."""
+"""The end of a query; no token of the language begins with it."""
 _EMPTY_LINE = re.compile(r"\n[ \t]*\n\Z")
 
 
 def is_whole(text: str, is_typed: bool = True) -> bool:
-    """Whether a text is to be carried out, or goes on in the next line.
+    """Whether to run a text, rather than read another line.
 
-    It goes on where it is no whole query yet, and may become one. A `;` at its end ends it in any
+    A text continues if it is no whole query yet and may become one. A `;` at its end ends it in any
     case, and so does an empty line, unless a string or a comment is open, or in a file a bracket.
     """
     if is_command(text) or not text.strip():
@@ -59,7 +59,7 @@ def is_whole(text: str, is_typed: bool = True) -> bool:
 
 
 def parted(text: str) -> list[str]:
-    """The queries of a text that are parted by `;`, or its one command."""
+    """The queries of a text, which `;` separates, or its one command."""
     if is_command(text):
         return [text.strip()]
     parts, rest = [], text
@@ -75,13 +75,12 @@ class Lines:
     """Lines that come one by one, and the texts that they make."""
 
     def __init__(self, is_typed: bool) -> None:
-        """`is_typed` says that a user types them, for whom an empty line ends a text."""
+        """`is_typed` says that a user types them; then an empty line ends a text."""
         self._is_typed = is_typed
         self.pending = ""
 
     def take(self, line: str) -> list[str]:
-        """The texts to be carried out now that this line has come. A command ends what is
-        pending."""
+        """The texts to run after this line. A command ends the pending text."""
         texts = []
         if self.pending.strip() and is_command(line) and not _is_quoted(self.pending):
             texts.append(self.rest())
@@ -91,7 +90,7 @@ class Lines:
         return texts
 
     def rest(self) -> str:
-        """What is pending, which is forgotten."""
+        """The pending text, which is then forgotten."""
         text, self.pending = self.pending, ""
         return text
 
@@ -109,8 +108,8 @@ def is_command(text: str) -> bool:
 
 
 def texts_of(text: str) -> list[str]:
-    """The queries and commands of a file: each ends with a line where it is whole and an empty line
-    or a command follows."""
+    """The queries and commands of a file: each ends with a line after which it is whole, if an
+    empty line or a command follows."""
     texts, pending = [], ""
     for line in [*text.splitlines(), ""]:
         begins = is_command(line)

@@ -1,4 +1,4 @@
-"""Servers that are started: each below a keeper, so that it ends with this process."""
+"""Starts servers, each below a keeper, so that it ends with this process."""
 
 import errno
 import os
@@ -10,20 +10,20 @@ from pathlib import Path
 
 KEEPER = Path(__file__).with_name("keeper.py")
 START_DELAYS = (0.0, 0.1, 0.5, 1.0, 2.0)
-"""Seconds before each try to start a server again; after the last it is given up, unless others
-are left that hold its documents."""
+"""Seconds before each new try to start a server. After the last try it is given up, unless other
+servers hold its documents."""
 KEPT, MOST_KEPT = 128, 1 << 20
-"""Megabytes of what queries have read that a server keeps where its command doesn't say it, and the
-most that can be said."""
+"""The megabytes that a server's cache has unless its command says otherwise, and the most that a
+command may say."""
 ISOLATED = ("-I", "-S")
-"""The keeper wants the standard library alone, and starts sooner without the rest."""
+"""The keeper needs only the standard library, and starts sooner without the rest."""
 
 
 def kept(command: Sequence[str], memory: int | None) -> list[str]:
-    """The words that run a server so that it ends with this process, within that much memory.
+    """The words that run a server so that it ends with this process, within this much memory.
 
-    They have to be run as the leader of a process group (`process_group=0`): who kills the group
-    ends the server with all that it started. OSError where there is no such command.
+    They must run as the leader of a process group (`process_group=0`): killing the group ends the
+    server with all that it started. Raises OSError if there is no such command.
     """
     _find(command[0])
     python = sys.executable or "python3"
@@ -31,7 +31,7 @@ def kept(command: Sequence[str], memory: int | None) -> list[str]:
 
 
 def _find(program: str) -> None:
-    """OSError where the program can't be run, as an `exec` of it would have it."""
+    """Raises OSError if the program can't be run, as its `exec` would."""
     if shutil.which(program) is None:
         number = errno.EACCES if os.path.exists(program) else errno.ENOENT
         raise OSError(number, os.strerror(number), program)
@@ -47,13 +47,13 @@ def how_ended(status: int | None) -> str:
 
 
 def is_on_file(command: Sequence[str]) -> bool:
-    """Whether the words of a server's command say that its documents live in a file."""
+    """Whether a server's command says that its documents are in a file."""
     return _names(command, "--file")
 
 
 def keeping(command: Sequence[str], megabytes: int, servers: int) -> list[str]:
-    """The words of a server's command that keeps its equal share of what so many servers keep
-    together (0: what each keeps by itself). A command that names its own is left as it is."""
+    """The words of a server's command with its equal share of the cache of all servers (0: what
+    each has by itself). A command that has its own share is left as it is."""
     share = max(1, megabytes // servers)
     if not megabytes or share == KEPT or _names(command, "--kept"):
         return list(command)
@@ -65,7 +65,7 @@ def _names(command: Sequence[str], option: str) -> bool:
 
 
 def in_memory(command: Sequence[str]) -> list[str]:
-    """The words of a server's command without the file that they name."""
+    """The words of a server's command without its file."""
     words: list[str] = []
     is_path = False
     for word in command:

@@ -1,9 +1,9 @@
-"""Documents stored from XML or from constructors, of any length, by a client of either kind.
+"""Stores documents from XML or from constructors, of any length, with a client of either kind.
 
-A document that fits a request goes as one. A larger one goes in parts under temporary addresses;
-then one store joins them, and they are dropped. All this is sent ahead, since a server carries
-requests out in the order in which they come: where a part is refused, so is the store that asks for
-it, and no document has changed.
+A document that fits a request is sent as one. A larger one is sent in parts under temporary
+addresses; then one store joins them, and they are dropped. All these requests are sent ahead, since
+a server carries requests out in order: if a part is refused, so is the store that asks for it, and
+no document has changed.
 """
 
 from collections.abc import Callable, Iterable
@@ -37,8 +37,8 @@ __all__ = ["Sender", "Stored", "chunks_of", "store_again", "store_constructors",
 
 @dataclass
 class Stored:
-    """What became of a document: whether another one was replaced, its nodes, and of how many
-    parts it was made, 0 where it went as one."""
+    """The outcome of a document: whether it replaced another one, its nodes, and its number of
+    parts, 0 if it was sent as one."""
 
     replaced: bool
     nodes: int
@@ -46,7 +46,7 @@ class Stored:
 
 
 class _Sending:
-    """What becomes of the requests of one document."""
+    """What to do with the replies to one document's requests."""
 
     is_sent = False
 
@@ -63,7 +63,7 @@ class _Sending:
         self._parts = 0
 
     def part_ended(self, read: int, future: Future[str]) -> None:
-        """A part has its reply, up to which so many bytes of the text had been read."""
+        """A part has its reply; `read` bytes of the text had been read before it."""
         self._note(future)
         self._parts += 1
         self._progress.reach(read)
@@ -98,9 +98,9 @@ class Sender:
     ) -> None:
         """Sends the parts of a document, the document itself, and drops of the parts.
 
-        `done` is called with the reply of the store, or with the error of it or of a part. An error
-        in reading the document leaves this, and then `done` is not called; parts that were sent are
-        dropped.
+        `done` is called with the reply of the store, or with its error or that of a part. If
+        reading the document fails, the error is raised, `done` is not called, and the parts that
+        were sent are dropped.
         """
         sending = _Sending(document, temporary, done, progress or silent())
         try:
@@ -125,7 +125,7 @@ class Sender:
 
 
 def _ignore(_: Future[str]) -> None:
-    """A drop of a part that was not stored is refused, which is as it should be."""
+    """The drop of a part that was not stored is refused, which is right."""
 
 
 def _send_and_wait(
@@ -147,7 +147,7 @@ def _send_and_wait(
 
 
 def store_at(client: Client, address: str, document: Incoming, temporary: Temporary) -> Stored:
-    """Stores a document at any address, as one that stands for a while."""
+    """Stores a document at any address, even a temporary one."""
     return _send_and_wait(client, address, document, temporary)
 
 
@@ -159,11 +159,11 @@ def store_xml(
     choices: XmlChoices = XmlChoices(),  # noqa: B008 (it is frozen)
     charset: str | None = None,
 ) -> Stored:
-    """Stores a document of XML whose bytes come in any pieces.
+    """Stores a document of XML whose bytes come in pieces of any size.
 
-    XmlFault where it is not well-formed or refused, KeptAddress where the address is kept for
-    parts, Refused and Wanting as the server says. `source` is how messages call the text, `charset`
-    that of its transport.
+    Raises XmlFault if it is not well-formed or is refused, KeptAddress if the address is kept for
+    parts, Refused and Wanting. `source` is the text's name in messages, `charset` that of its
+    transport.
     """
     check_lasting(address)
     temporary = Temporary()
@@ -180,8 +180,8 @@ def store_file(
     charset: str | None = None,
     progress: Progress | None = None,
 ) -> Stored:
-    """Stores what a file holds: XML, or a query that gives the document, which has constructors
-    alone where it is too long for a request. Errors as of `store_xml`, and PlacedFault."""
+    """Stores a file: XML, or a query that gives the document. A query that is too long for a
+    request must consist of constructors. Errors as in `store_xml`, and PlacedFault."""
     check_lasting(address)
     temporary = Temporary()
     document = incoming(file, source, temporary, choices, charset)
@@ -189,10 +189,10 @@ def store_file(
 
 
 def store_constructors(client: Client, address: str, text: str, source: str = "text") -> Stored:
-    """Stores a document of constructors, of any length, as they are written or printed.
+    """Stores a document of constructors, of any length, written by hand or printed.
 
-    PlacedFault (a ValueError) where the text is not one document of constructors that the server
-    takes, KeptAddress where the address is kept for parts.
+    Raises PlacedFault (a ValueError) if the text is not one document of constructors that the
+    server takes, KeptAddress if the address is kept for parts.
     """
     check_lasting(address)
     temporary = Temporary()
@@ -203,8 +203,8 @@ def store_constructors(client: Client, address: str, text: str, source: str = "t
 def store_again(
     client: Client, address: str, text: str, progress: Progress | None = None
 ) -> Stored:
-    """Stores what the server has printed, at any address: a backup may hold parts. Misspelt, or
-    another ValueError, where the server has not."""
+    """Stores what the server has printed, at any address, since a backup may hold parts. Raises
+    Misspelt, or another ValueError, if the server can't have printed it."""
     temporary = Temporary()
     document = PrintedDocument(events(text), temporary)
     return _send_and_wait(client, address, document, temporary, progress)
@@ -218,7 +218,7 @@ async def store_xml_async(
     choices: XmlChoices = XmlChoices(),  # noqa: B008 (it is frozen)
     charset: str | None = None,
 ) -> Stored:
-    """As `store_xml`, for asyncio; each part is waited for."""
+    """Like `store_xml`, for asyncio; waits for each part."""
     check_lasting(address)
     temporary = Temporary()
     document = XmlDocument(chunks, XmlReader(source, temporary, choices, charset))

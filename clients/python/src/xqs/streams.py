@@ -1,5 +1,5 @@
-"""Bytes to a server and from it, for threads: a connected socket, or the pipes of a program that
-was started. Nothing here waits for longer than it is told to."""
+"""Bytes to and from a server, for threads: over a connected socket, or the pipes of a program that
+was started. Nothing here waits longer than its caller says."""
 
 import os
 import select
@@ -16,15 +16,15 @@ from xqs.errors import NotConnected
 from xqs.starting import kept
 
 PIECE = 1 << 18
-"""So many bytes of replies are read at once, at most."""
+"""The most bytes of replies that are read at once."""
 EXIT_PATIENCE = 60.0
-"""So many seconds a server has to end after its output has, before it is killed."""
+"""How many seconds a server has to end after its output has ended, before it is killed."""
 
 
 class Stream:
-    """Bytes to a server and from it. One thread reads, any thread sends.
+    """Bytes to and from a server. One thread reads, any thread sends.
 
-    What could not be sent in time stays here, and whoever reads sends it on.
+    Bytes that could not be sent in time stay here, and the reading thread sends them.
     """
 
     process: subprocess.Popen[bytes] | None = None
@@ -42,8 +42,8 @@ class Stream:
             self._poller.register(number, select.POLLIN)
 
     def send(self, data: bytes, deadline: float | None = None) -> None:
-        """Sends the bytes. TimeoutError where they have not left by then: the rest stays to be sent
-        on; OSError where the stream has ended."""
+        """Sends the bytes. Raises TimeoutError if they have not left by the deadline, and keeps the
+        rest to send later; OSError if the stream has ended."""
         self.put(data)
         while not self._flush():
             poller = select.poll()
@@ -53,11 +53,11 @@ class Stream:
                 raise TimeoutError
 
     def put(self, data: bytes) -> None:
-        """Has the bytes sent by whoever reads."""
+        """Leaves the bytes to the reading thread to send."""
         self._rest.append(memoryview(data))
 
     def _flush(self) -> bool:
-        """Sends what goes out at once; whether that was all."""
+        """Sends as much as possible at once. Returns whether that was all."""
         with self._lock:
             if self._is_finished:
                 raise BrokenPipeError("the connection was closed")
@@ -76,7 +76,7 @@ class Stream:
             return True
 
     def receive(self, deadline: float | None) -> bytes | None:
-        """Some bytes, none at the end; None after the deadline, or when it is woken."""
+        """The next bytes, none at the end; None after the deadline, or after `wake`."""
         if self._rest and not self._is_finished:
             ready = self._send_on(deadline)
         else:
@@ -94,24 +94,24 @@ class Stream:
             return None
 
     def _send_on(self, deadline: float | None) -> dict[int, int]:
-        """Sends what was left, as soon as it goes out; what there is to be read meanwhile."""
+        """Sends what was left, as soon as it goes out. Returns what came meanwhile."""
         poller = select.poll()
         poller.register(self._woken, select.POLLIN)
         poller.register(self._writing, select.POLLOUT)
         both = select.POLLIN | (select.POLLOUT if self._reading == self._writing else 0)
         poller.register(self._reading, both)
         ready = dict(poller.poll(_milliseconds(deadline)))
-        with suppress(OSError):  # (an end is seen by reading)
+        with suppress(OSError):  # (reading shows an end)
             self._flush()
         return ready
 
     def wake(self) -> None:
-        """Has whoever reads look again."""
+        """Wakes the reading thread."""
         with self._lock, suppress(OSError):
             os.write(self._waking, b"w")
 
     def finish_writing(self) -> None:
-        """Tells the server that nothing more comes, once all has been sent."""
+        """Closes the sending side once everything has been sent."""
         with self._lock:
             self._is_finishing = True
             if not self._rest and not self._is_finished:
@@ -119,7 +119,7 @@ class Stream:
         self.wake()
 
     def _finish(self) -> None:
-        """Ends the bytes to the server. The lock is the caller's."""
+        """Closes the sending side. The caller holds the lock."""
         self._is_finished = True
         with suppress(OSError):
             self._end_writing()
@@ -129,11 +129,12 @@ class Stream:
         raise NotImplementedError
 
     def wait(self) -> None:
-        """After the end of what is read: has those who send fail, for nothing more is taken."""
+        """After the end of the input: makes senders fail, since nothing takes their bytes."""
         self.kill()
 
     def close(self) -> int | None:
-        """Gives the stream back, after its end; the exit status of its process, if it has one."""
+        """Releases the stream after its end. Returns the exit status of its process, if it has
+        one."""
         with self._lock:
             self._rest.clear()
             if not self._is_finished:
@@ -188,7 +189,7 @@ class GroupProcess(subprocess.Popen[bytes]):
     """A process that leads a group: a keeper, with the server below it."""
 
     def send_signal(self, sig: int) -> None:
-        """Sends the signal to all of the group."""
+        """Sends the signal to the whole group."""
         if self.poll() is None:
             with suppress(ProcessLookupError):
                 os.killpg(self.pid, sig)
@@ -200,8 +201,8 @@ class ProcessStream(Stream):
     process: subprocess.Popen[bytes]
 
     def __init__(self, command: Command, memory: int | None = None) -> None:
-        """OSError where it can't be started."""
-        # In a group of its own: Ctrl+C at a terminal is for whoever asks, and not for the server.
+        """Raises OSError if it can't be started."""
+        # In a group of its own: Ctrl+C at a terminal is for this program, not for the server.
         self.process = GroupProcess(
             kept(command.words, memory),
             stdin=subprocess.PIPE,
@@ -223,11 +224,11 @@ class ProcessStream(Stream):
         self._in.close()
 
     def kill(self) -> None:
-        """Kills the server, with all that it started."""
+        """Kills the server with all that it started."""
         self.process.kill()
 
     def wait(self) -> None:
-        """Waits for the end of the process, which is killed where that doesn't come."""
+        """Waits for the end of the process, and kills it if it doesn't end."""
         try:
             self.process.wait(EXIT_PATIENCE)
         except subprocess.TimeoutExpired:
@@ -244,9 +245,9 @@ def _milliseconds(deadline: float | None) -> float | None:
 
 
 def open_stream(place: Endpoint, bounds: Bounds, timeout: float | None = None) -> Stream:
-    """A stream to a server, which is started where the place is a command.
+    """A stream to a server; starts the server if the place is a command.
 
-    NotConnected (an OSError) where there is none; by a socket it is waited for so many seconds.
+    Raises NotConnected (an OSError) if there is none; a socket is tried for `seconds`.
     """
     try:
         if isinstance(place, Command):
@@ -270,6 +271,6 @@ def _unix(path: str, timeout: float | None) -> socket.socket:
 
 
 def not_connected(place: Endpoint, error: OSError) -> NotConnected:
-    """The error of a place at which there is no server."""
+    """The error for a place without a server."""
     what = place.words[0] if isinstance(place, Command) else str(place)
     return NotConnected(error.errno, error.strerror or str(error), what)

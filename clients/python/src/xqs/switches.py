@@ -13,11 +13,11 @@ from xqs.xml_judge import judge_xml
 from xqs.xml_names import Names
 
 PATIENCE = 15.0
-"""So many seconds are spent on it, at most."""
+"""How many seconds are spent on it, at most."""
 
 
 def shown(files: Sequence[Path], choices: XmlChoices) -> str:
-    """How many of the files would load by which options, in a line; empty where none would.
+    """A line that says how many of the files other options would load; empty if none.
 
     `choices` are those by which they were refused.
     """
@@ -35,7 +35,7 @@ def shown(files: Sequence[Path], choices: XmlChoices) -> str:
 
 
 def taking(file: Path, choices: XmlChoices) -> Iterator[str]:
-    """The options that would take the file."""
+    """The options that would load the file."""
     for names in dict.fromkeys((choices.names, Names.FLAT, Names.LOCAL)):
         for entities in (False, True):
             wanted = replace(choices, names=names, entities=entities or choices.entities)
@@ -59,7 +59,7 @@ def _takes(file: Path, choices: XmlChoices) -> bool:
 
 
 def _telling(counts: Counter[str]) -> list[tuple[str, int]]:
-    """The options with their counts, but those that take no more than a part of them does."""
+    """The options with their counts, except those that load no more than some of them alone."""
     ranked = sorted(counts.items(), key=lambda it: (it[0].count("--"), -it[1], it[0]))
     return [
         (options, count) for options, count in ranked

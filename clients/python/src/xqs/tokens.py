@@ -20,11 +20,11 @@ _TOKEN = re.compile(
 )
 _COMMENT_MARK = re.compile(r"\(:|:\)")
 ENDS = ("open string", "open comment", "other")
-"""The kinds of what is no token; nothing is read after it."""
+"""The kinds of texts that are no token; nothing is read after them."""
 
 
 class Token(NamedTuple):
-    """A token of a query, or a comment: its kind, where it begins, its text."""
+    """A token of a query, or a comment: its kind, its place, its text."""
 
     kind: str
     at: int
@@ -32,8 +32,8 @@ class Token(NamedTuple):
 
 
 def tokens(text: str) -> Iterator[Token]:
-    """The tokens of a text but for white space, comments among them. The kinds of `ENDS` stand for
-    what is no token; they end the tokens."""
+    """The tokens of a text, with comments but without white space. A kind in `ENDS` marks a text
+    that is no token, and ends the tokens."""
     at = 0
     while at < len(text):
         token = _token_at(text, at)
@@ -59,7 +59,7 @@ def _comment(text: str, start: int) -> Token:
 
 
 def comment_end(text: str, start: int) -> int | None:
-    """Where the comment ends that begins there; None where it doesn't end."""
+    """The end of the comment that begins there; None if it doesn't end."""
     depth = 0
     for found in _COMMENT_MARK.finditer(text, start):
         depth += 1 if found[0] == "(:" else -1

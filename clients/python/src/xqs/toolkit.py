@@ -1,4 +1,4 @@
-"""The lines of `xqs shell` by prompt_toolkit, which is imported here alone."""
+"""The lines of `xqs shell` by prompt_toolkit; only this module imports it."""
 
 from collections.abc import Callable, Iterable, Iterator
 from pathlib import Path
@@ -22,7 +22,7 @@ class Words(Completer):
     def get_completions(
         self, document: Document, complete_event: CompleteEvent
     ) -> Iterable[Completion]:
-        """What the word before the cursor may go on to."""
+        """The completions of the word before the cursor."""
         before = document.text_before_cursor
         word = self._word_before(before)
         for found in completions(self._session, word, before):
@@ -30,7 +30,7 @@ class Words(Completer):
 
 
 def keys() -> KeyBindings:
-    """Enter carries a text out where it is whole, else it goes on."""
+    """Enter runs a text if it is whole, else it begins another line."""
     bindings = KeyBindings()
 
     @bindings.add("enter")
@@ -47,8 +47,8 @@ def keys() -> KeyBindings:
 def typed(
     session: Session, history: Path, word_before: Callable[[str], str], prompts: tuple[str, str]
 ) -> Iterator[str]:
-    """What the user types, text by text, to the end. `prompts` are those of a first line and of
-    those after it."""
+    """The user's input, text by text, to the end. `prompts` are those of a first line and of
+    further lines."""
     prompt: PromptSession[str] = PromptSession(
         history=FileHistory(str(history)),
         completer=Words(session, word_before),

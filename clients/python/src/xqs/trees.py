@@ -1,7 +1,7 @@
-"""Nodes as trees of Python's ElementTree and of lxml, and the other way.
+"""Nodes as trees of Python's ElementTree and of lxml, and the reverse.
 
-lxml is asked for where a tree of it is wanted, and not before. Neither has names with a colon that
-stand for no namespace, and the server has no namespaces: names with one are refused.
+lxml is imported only when one of its trees is needed. Names with a namespace are refused: the
+server has no namespaces, and neither package can have a colon in a name without one.
 """
 
 import importlib
@@ -14,7 +14,7 @@ from xqs.errors import XqError
 from xqs.values import Node, NodeKind
 
 Element: TypeAlias = Any
-"""An element of ElementTree or lxml, which has no types."""
+"""An element of ElementTree or lxml, which have no types."""
 
 
 class NoTree(XqError, ValueError):
@@ -22,17 +22,18 @@ class NoTree(XqError, ValueError):
 
 
 def lxml_etree() -> ModuleType:
-    """The package; NoTree where it isn't installed."""
+    """The package. Raises NoTree if it isn't installed."""
     try:
         return importlib.import_module("lxml.etree")
     except ImportError as error:
-        raise NoTree("this wants lxml (Debian: python3-lxml), which is not installed") from error
+        raise NoTree("this needs lxml (Debian: python3-lxml), which is not installed") from error
 
 
 def to_element(node: Node) -> ElementTree.Element:
-    """An element, or that of a document, as ElementTree has it.
+    """An element, or that of a document, for ElementTree.
 
-    NoTree for other nodes, and for a document with more beside its element: lxml has room for it.
+    Raises NoTree for other nodes, and for a document with more than its element, which lxml can
+    hold.
     """
     root, before, after = _parts(node)
     if before or after:
@@ -43,7 +44,7 @@ def to_element(node: Node) -> ElementTree.Element:
 
 
 def to_lxml(node: Node) -> Element:
-    """An element as lxml has it; of a document its tree, with what stands beside its element."""
+    """An element for lxml; for a document its tree, with what is beside its element."""
     etree = lxml_etree()
     root, before, after = _parts(node)
     try:
@@ -58,7 +59,7 @@ def to_lxml(node: Node) -> Element:
 
 
 def _parts(node: Node) -> tuple[Node, list[Node], list[Node]]:
-    """The element of an element or a document, and what stands before it and after it."""
+    """The element of an element or a document, and the nodes before and after it."""
     if node.kind is NodeKind.ELEMENT:
         return node, [], []
     roots = [number for number, it in enumerate(node.children) if it.kind is NodeKind.ELEMENT]
@@ -99,7 +100,7 @@ def _beside(node: Node, package: ModuleType) -> Element:
 def from_tree(tree: Element) -> Node:
     """The node of an element, or of a whole tree, of ElementTree or lxml.
 
-    NoTree for what is neither, and for names with a namespace.
+    Raises NoTree for anything else, and for names with a namespace.
     """
     if hasattr(tree, "getroot"):
         root = tree.getroot()
@@ -114,7 +115,7 @@ def from_tree(tree: Element) -> Node:
 
 
 def _siblings(root: Element, preceding: bool) -> Iterator[Element]:
-    """What stands beside the element of a tree of lxml; of ElementTree nothing."""
+    """The nodes beside the element of a tree of lxml; none for ElementTree."""
     if hasattr(root, "itersiblings"):
         yield from root.itersiblings(preceding=preceding)
 

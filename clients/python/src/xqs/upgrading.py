@@ -1,4 +1,4 @@
-"""Another program in the place of the one that runs, server by server, while the others answer."""
+"""Replaces the running program, server by server, while the other servers answer."""
 
 import asyncio
 import os
@@ -19,22 +19,23 @@ if TYPE_CHECKING:
     from xqs.mux_many import ManyServers
 
 DOCUMENTS = 20
-"""So many documents are read of both programs, besides what clients asked."""
+"""How many documents are read from both programs, besides the clients' requests."""
 SHOWN = 60
 FIXED = (b"L", b"Qcount(collection())", b"Qfor $d in collection() return count($d//node())")
-"""What both programs are asked in any case."""
+"""The requests that both programs get in any case."""
 
 
 class NotUpgraded(XqError):
-    """The program was not taken over, and why; the one before goes on."""
+    """The program was not upgraded, and the message says why; the old one goes on."""
 
 
 class AnswersOtherwise(CannotFill):
-    """The other program gave another reply to a request of the sample."""
+    """The new program gave another reply to a request of the sample."""
 
 
 def absolute(command: Sequence[str], folder: Path) -> list[str]:
-    """The words of a command as they can be run in any folder. NotUpgraded where it can't be."""
+    """The words of a command in a form that runs in any folder. Raises NotUpgraded if there is
+    none."""
     program = shutil.which(str(folder / command[0]) if "/" in command[0] else command[0])
     if program is None:
         raise NotUpgraded(f"there is no program {command[0]}")
@@ -49,9 +50,10 @@ def absolute(command: Sequence[str], folder: Path) -> list[str]:
 
 
 async def check(source: Replica, other: Replica, sample: Sequence[bytes]) -> None:
-    """That two servers that hold the same documents answer a sample of requests alike.
+    """Checks that two servers with the same documents give the same answers to a sample of
+    requests.
 
-    Replies that want memory or the store are not compared. Raises AnswersOtherwise, ServerEnded.
+    Replies of status 2 are not compared. Raises AnswersOtherwise, ServerEnded.
     """
     listed = await source.ask(Kind.LIST.value)
     addresses = values(listed[1:].decode()) if listed[0] == Status.DONE else []
@@ -61,20 +63,20 @@ async def check(source: Replica, other: Replica, sample: Sequence[bytes]) -> Non
         theirs, ours = await asyncio.gather(source.ask(payload), other.ask(payload))
         if theirs != ours and Status.WANTING not in (theirs[0], ours[0]):
             raise AnswersOtherwise(
-                f"it answers otherwise: {payload[:SHOWN].decode(errors='replace')!r} by "
-                f"{ours[:SHOWN].decode(errors='replace')!r}, and not by "
+                f"its answer differs: {payload[:SHOWN].decode(errors='replace')!r} gives "
+                f"{ours[:SHOWN].decode(errors='replace')!r}, not "
                 f"{theirs[:SHOWN].decode(errors='replace')!r}")
 
 
 async def upgrade(servers: "ManyServers", command: Sequence[str],
                   say: Callable[[str], Awaitable[None]]) -> None:
-    """Has each server run another command, the first one last.
+    """Makes each server run another command, the first one last.
 
-    NotUpgraded where a server with it does not begin, or answers a sample of requests otherwise
-    than those that run: then all go on with the one before.
+    Raises NotUpgraded if a server doesn't start with it, or answers a sample of requests
+    differently from the running ones: then all go on with the old command.
     """
     if servers.is_upgrading:
-        raise NotUpgraded("another program is being taken over already")
+        raise NotUpgraded("another upgrade is under way")
     before, replicas = servers.command, servers.replicas
     _check_file(before, command)
     servers.is_upgrading = True
@@ -87,11 +89,11 @@ async def upgrade(servers: "ManyServers", command: Sequence[str],
             await say(f"{replica.name} runs it")
         servers.command = list(command)
     except NotUpgraded as error:
-        servers.note(f"the program is not taken over: {error}")
+        servers.note(f"the upgrade is refused: {error}")
         for replica in changed:
             if replica.command != before:
                 replica.command, replica.is_new, replica.failure = before, False, None
-                await servers.leave(replica, "back to the program before")
+                await servers.leave(replica, "back to the old program")
         raise
     finally:
         servers.is_upgrading = False
@@ -107,7 +109,7 @@ def _check_file(before: Sequence[str], command: Sequence[str]) -> None:
 
 async def _change(servers: "ManyServers", replica: Replica, command: Sequence[str]) -> None:
     replica.command, replica.is_new, replica.failure = list(command), True, None
-    if not await servers.leave(replica, "another program takes its place"):
+    if not await servers.leave(replica, "another program replaces it"):
         raise NotUpgraded("no other server holds the documents now: try again later")
     failure: Exception | None = replica.failure
     if failure is None and replica.state is not State.READY:

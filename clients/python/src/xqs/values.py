@@ -41,7 +41,7 @@ class Untyped(str):
 class Node:
     """A node with all below it.
 
-    A document and an element have children, an element attributes too; the other kinds have a
+    Documents and elements have children, and elements have attributes; the other kinds have a
     value. Documents, texts and comments have no name. `str` gives its constructor.
     """
 
@@ -52,15 +52,15 @@ class Node:
     children: list["Node"] = field(default_factory=list)
 
     def __getitem__(self, name: str) -> str:
-        """The value of an attribute; KeyError where there is none of that name."""
+        """The value of an attribute. Raises KeyError if there is none of that name."""
         return self.attributes[name]
 
     def __str__(self) -> str:
         return self.constructor()
 
     def descendants(self, name: str = "") -> Iterator["Node"]:
-        """This node and those below it in document order, attributes aside; of one name alone,
-        where it is given."""
+        """This node and those below it in document order, without attributes; only those with
+        `name`, if it is given."""
         stack = [self]
         while stack:
             node = stack.pop()
@@ -70,7 +70,7 @@ class Node:
 
     @property
     def text(self) -> str:
-        """The string value: of a document or an element the texts below it, joined."""
+        """The string value: for a document or an element the texts below it, joined."""
         if self.kind not in PARENTS:
             return self.value
         return "".join(it.value for it in self.descendants() if it.kind is NodeKind.TEXT)
@@ -84,40 +84,40 @@ class Node:
         return opening(self.kind, self.name) + ", ".join(content) + "}"
 
     def xml(self, names: str = "keep") -> str:
-        """This node as XML; `names` as for `xqs.xml_out.xml`."""
+        """This node as XML; `names` as in `xqs.xml_out.xml`."""
         from xqs.xml_out import xml
 
         return xml(self, names)
 
     def element(self) -> "ElementTree.Element":
-        """This element, or that of this document, as xml.etree.ElementTree has it; NoTree (a
-        ValueError) where it has no room for it."""
+        """This element, or that of this document, for xml.etree.ElementTree. Raises NoTree (a
+        ValueError) if ElementTree can't hold it."""
         from xqs.trees import to_element
 
         return to_element(self)
 
     def lxml(self) -> Any:
-        """This element, or this document as a tree, as lxml has it; NoTree (a ValueError) where it
-        has no room for it, or isn't installed."""
+        """This element, or this document as a tree, for lxml. Raises NoTree (a ValueError) if lxml
+        can't hold it, or isn't installed."""
         from xqs.trees import to_lxml
 
         return to_lxml(self)
 
     @classmethod
     def of(cls, tree: Any) -> "Node":
-        """The node of an element or of a tree of ElementTree or lxml; NoTree for names with a
-        namespace."""
+        """The node of an element or of a tree of ElementTree or lxml. Raises NoTree for names with
+        a namespace."""
         from xqs.trees import from_tree
 
         return from_tree(tree)
 
 
 Item: TypeAlias = int | Decimal | str | bool | Untyped | Node
-"""An item of a reply. A Python int may be of any size, an integer of the server has 64 bits."""
+"""An item of a reply. A Python int may have any size; an integer of the server has 64 bits."""
 
 
 def quoted(text: str) -> str:
-    """Text as a string literal of a query."""
+    """A text as a string literal of a query."""
     if "&" in text:
         text = text.replace("&", "&amp;")
     if "\r" in text:
@@ -138,7 +138,7 @@ def unquoted(literal: str) -> str:
 
 
 def opening(kind: NodeKind, name: str) -> str:
-    """How the constructor of a document or an element begins."""
+    """The beginning of the constructor of a document or an element."""
     return f"{kind.value} {name} {{" if name else f"{kind.value} {{"
 
 
@@ -177,7 +177,7 @@ class Leaf:
 
 @dataclass(frozen=True, slots=True)
 class Close:
-    """The document or the element that was opened last ends."""
+    """The innermost open document or element ends."""
 
 
 @dataclass(frozen=True, slots=True)
@@ -188,14 +188,14 @@ class Atom:
 
 
 Event: TypeAlias = Open | Leaf | Close | Atom
-"""One step through printed items; those of a node stand as its constructor has them."""
+"""An event of printed items; nodes come as in their constructors."""
 _CLOSE = Close()
 
 
 def events(text: str) -> Iterator[Event]:
     """The events of a printed value.
 
-    Misspelt where the text is none; whether opened nodes close again is not looked at.
+    Raises Misspelt if the text is none. Does not check that each node that opens closes again.
     """
     at, end, match = 0, len(text), _TOKEN.match
     while at < end:
@@ -235,7 +235,7 @@ def _atom(group: str, text: str) -> int | Decimal | str | bool | Untyped:
 
 
 def items(text: str) -> Iterator[Item]:
-    """The items that a reply's text spells, one by one; Misspelt where it spells none."""
+    """The items in a reply's text, one by one. Raises Misspelt if it is no printed value."""
     stack: list[Node] = []
     for event in events(text):
         match event:
@@ -254,11 +254,11 @@ def items(text: str) -> Iterator[Item]:
             case Atom(atom):
                 yield atom
     if stack:
-        raise Misspelt("a printed value that is cut")
+        raise Misspelt("a printed value that is cut short")
 
 
 def values(text: str) -> list[Item]:
-    """The items that a reply's text spells; Misspelt where it spells none."""
+    """The items in a reply's text. Raises Misspelt if it is no printed value."""
     return list(items(text))
 
 

@@ -1,4 +1,4 @@
-"""Waiting for one of several events, and for tasks that are to end."""
+"""Waits for one of several events, and for tasks to end."""
 
 import asyncio
 from typing import Any
@@ -15,7 +15,7 @@ async def first_set(*events: asyncio.Event) -> None:
 
 
 async def cancelled(*tasks: "asyncio.Task[Any]") -> None:
-    """Cancels tasks, and waits until they have ended, however they do."""
+    """Cancels tasks, and waits until they have ended, in any way."""
     for task in tasks:
         task.cancel()
     await asyncio.gather(*tasks, return_exceptions=True)

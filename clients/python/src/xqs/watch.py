@@ -1,5 +1,5 @@
-"""When a server is too long at a request, and whether it may be ended: what the links for threads
-and for asyncio share."""
+"""When a server takes too long for a request, and whether it may be ended: for the links of threads
+and of asyncio."""
 
 import time
 from typing import Generic
@@ -12,30 +12,30 @@ from xqs.requests import PROBE, SHOWN, F, InFlight, Waiting
 from xqs.starting import how_ended
 
 SOCKET_SHARE = 1.05
-"""So much of a request's time is waited at a socket, whose server has the same bound."""
+"""How many times a request's time the client waits at a socket, whose server has the same bound."""
 
 
 class Watch(Generic[F]):
-    """Looks at the requests under way, of which the server is at the oldest one."""
+    """Watches the requests under way; the server works on the oldest one."""
 
     def __init__(self, origin: Origin | None) -> None:
         self.origin = origin
         self.in_flight: InFlight[F] = InFlight()
         self.closing: float | None = None
-        """Since when nothing more is asked; None before."""
+        """Since when no more requests are taken; None before."""
         self.is_forced = False
-        """Whether a server is to be ended although documents are lost by that."""
+        """Whether to end the server although documents are lost by that."""
         self.ended = ""
-        """Why nothing more can be asked; empty before."""
+        """Why no more requests are taken; empty before."""
 
     @property
     def is_started(self) -> bool:
-        """Whether the server is one that was started here."""
+        """Whether the server was started here."""
         return self.origin is not None and self.origin.is_started
 
     @property
     def is_losing(self) -> bool:
-        """Whether documents would be lost if the server were ended now."""
+        """Whether documents would be lost if the server ended now."""
         origin = self.origin
         return origin is not None and origin.is_started and not origin.keeps and bool(
             self.in_flight.stored)
@@ -46,19 +46,19 @@ class Watch(Generic[F]):
         return not self._is_idle()
 
     def close(self) -> None:
-        """From now on nothing more is asked."""
+        """Takes no more requests from now on."""
         self.closing = self.closing or time.monotonic()
 
     def probes(self, future: F) -> list[Waiting[F]]:
-        """What a server that is started is asked first: it may have to be built, for as long as
-        that takes, and no request of anybody is to wait for its reply within bounds before."""
+        """The first request to a server that is started. It may take any time, since the server may
+        have to be built first, and no other request's time runs before its reply."""
         return [Waiting(PROBE, future, None)] if self.is_started else []
 
     def deadline(self) -> float | None:
-        """When to look again, at the latest.
+        """The latest time to look again.
 
-        Where nothing is under way, that is how long a request may take: one that begins meanwhile
-        wakes nobody, and is due after this at the soonest.
+        If nothing is under way, that is after the time that a request may take: a request that
+        begins meanwhile wakes nobody, and can't be due earlier.
         """
         front = self.in_flight.front()
         if front is None or (front.request is PROBE and self._is_idle()):
@@ -73,15 +73,16 @@ class Watch(Generic[F]):
         return self.in_flight.due(self._bound(front))
 
     def _bound(self, front: Waiting[F]) -> float | None:
-        """How long the server may be at the request; one at a socket says first that it was."""
+        """How many seconds the server may take for the request; a server at a socket is given a
+        little more, so that it can say first that it took too long."""
         if front.seconds is None or self.is_started:
             return front.seconds
         return front.seconds * SOCKET_SHARE
 
     def due(self) -> Cause | None:
-        """Why the stream is to be ended now; None where it is not.
+        """Why the stream must be ended now; None if it need not.
 
-        At a socket a request that is due fails here: its server is somebody else's.
+        At a socket a request that is due fails here: its server belongs to somebody else.
         """
         now, front = time.monotonic(), self.in_flight.front()
         if front is None or self._is_idle():
@@ -95,13 +96,13 @@ class Watch(Generic[F]):
         if self.is_started:
             return Cause.OVERDUE
         shown = front.request.shown[:SHOWN]
-        front.fail(TimedOut(f"no reply for {front.seconds:g} seconds; the server may be at it "
-                            f"still (the request was: {shown})"))
+        front.fail(TimedOut(f"no reply for {front.seconds:g} seconds; the server may still work "
+                            f"on it (the request was: {shown})"))
         return None
 
     def told_end(self, cause: Cause, why: str, waiting: list[Waiting[F]],
                  status: int | None) -> str:
-        """Why a stream ended; more of it where the server has not begun to answer."""
+        """Why a stream ended, with the reason why the server did not start if it never answered."""
         origin = self.origin
         is_unbegun = any(it.request is PROBE for it in waiting) and cause is Cause.ITSELF
         if not is_unbegun or origin is None or not isinstance(origin.place, Command):
@@ -111,20 +112,20 @@ class Watch(Generic[F]):
         return ended_at_start(origin.place.words, how_ended(status))
 
     def wants_stream(self, cause: Cause, ended: Ended[F]) -> bool:
-        """Whether another stream is to follow at once. Where none is, and none can follow later,
-        nothing more can be asked."""
+        """Whether another stream must follow at once. If none does, and none can follow later, no
+        more requests are taken."""
         if self.ended or cause is Cause.CLOSED:
             return False
         is_ended_here = cause in (Cause.OVERDUE, Cause.ABANDONED) and self.is_started
         return bool(ended.again) or (is_ended_here and self.closing is None)
 
     def end_for_good(self, why: str) -> None:
-        """Notes that a stream has ended which no other one follows, unless one can follow later."""
+        """Notes that a stream has ended without a successor, unless one can follow later."""
         if self.origin is None or self.is_started or self.closing is not None:
             self.ended = self.ended or why
 
     def _is_idle(self) -> bool:
-        """Whether no reply is under way but that of the probe."""
+        """Whether no reply but that of the probe is under way."""
         front = self.in_flight.front()
         return front is None or (front.request is PROBE and len(self.in_flight) == 1)
 

@@ -1,4 +1,5 @@
-"""What the system says of a server that runs: whether it is stopped, and how much memory it has."""
+"""What the system says about a running server: whether it is stopped, and how much memory it
+uses."""
 
 import os
 import signal
@@ -12,18 +13,19 @@ from xqs.replica import Replica
 
 PROCESSES = Path("/proc")
 DEEPEST = 4
-"""A server may be so many processes below its keeper, as where a script starts it."""
+"""How many processes may be between the keeper and a server, as when a script starts it."""
 NEARLY = 0.9
-"""A server that has so much of its memory, while it is at nothing, is started again."""
+"""A server that uses this share of its memory while it is idle is started again."""
 MUCH = 0.7
-"""One that ends by a signal when it had so much of it is taken to have ended by that."""
+"""A server that ends by a signal while it uses this share of its memory is taken to have ended
+because of that."""
 STOPPED = "T"
 MEMORY_STATUS = 1
 """The exit status of a server that had no room for a frame or its reply."""
 
 
 def below(process: int) -> list[int]:
-    """The process and those that it started, and so on."""
+    """The process and its descendants."""
     found, last = [process], [process]
     for _ in range(DEEPEST):
         last = [it for parent in last for it in _children(parent)]
@@ -45,13 +47,13 @@ def is_stopped(keeper: int) -> bool:
 
 
 class Stopped:
-    """Servers that were stopped as a process, and not for a moment alone."""
+    """Servers that were stopped as processes, and not only for a moment."""
 
     def __init__(self) -> None:
         self._before: set[Replica] = set()
 
     def look(self, replicas: Iterable[Replica]) -> set[Replica]:
-        """Those that were so at the look before, too."""
+        """Those that were also stopped at the last check."""
         seen = {it for it in replicas if it.runs and is_stopped(it.backend.process.pid)}
         lasting, self._before = seen & self._before, seen
         return lasting
@@ -66,12 +68,12 @@ def _state(process: int) -> str:
 
 
 def addresses_of(keeper: int) -> int:
-    """The bytes of addresses of the largest process below a keeper, which its bound is about."""
+    """The address space, in bytes, of the largest process below a keeper; its bound limits that."""
     return max((_pages(it)[0] for it in below(keeper)[1:]), default=0)
 
 
 def resident(keeper: int) -> int:
-    """The bytes of memory that the server has."""
+    """The bytes of memory that the server uses."""
     return sum(_pages(it)[1] for it in below(keeper)[1:])
 
 
@@ -90,7 +92,8 @@ def is_large(keeper: int, memory: int | None) -> bool:
 
 
 def blame(replica: Replica) -> bytes | None:
-    """What the request gets that a server was at, where it is known that it made that end."""
+    """The reply to the request that a server worked on, if that request is known to have ended
+    it."""
     if replica.backend.overdue:
         return TOO_SLOW
     if ended_by_memory(replica.backend, replica.why, replica.resident, replica.memory):
@@ -99,8 +102,8 @@ def blame(replica: Replica) -> bytes | None:
 
 
 def ended_by_memory(backend: Backend, why: str, seen: int, memory: int | None) -> bool:
-    """Whether a server ended for want of memory: by its own word, or by the system while it had
-    much of what it may have. `why` is there where it was ended from here."""
+    """Whether a server ended because memory ran out: it said so, or the system ended it while it
+    used most of what it may. `why` is set if it was ended from here."""
     status = backend.process.returncode
     if why or status is None or backend.frames >= FRAME_LIMIT:
         return False

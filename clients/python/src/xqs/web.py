@@ -32,15 +32,15 @@ from xqs.xml_names import Names
 USAGE = "xqs web [OPTIONS] [-- COMMAND [WORDS]]"
 DEFAULTS = WebSettings()
 LAST_ANSWERS = 60.0
-"""So many seconds answers under way have after the signal that ends all."""
+"""How many seconds the answers under way have after the signal that ends the program."""
 
 
 say = partial(mux.say, command="web")
 
 
 def is_own_fault(record: logging.LogRecord) -> bool:
-    """Whether a line of aiohttp's log is about this program, and not about a request that was no
-    HTTP, or a client that has gone: any client can do that, and is told of it."""
+    """Whether a line of aiohttp's log is about this program, and not about a request that was not
+    HTTP or a client that has gone: any client can cause those, and gets the answer itself."""
     error = record.exc_info[1] if record.exc_info else None
     return not isinstance(error, HttpProcessingError | ConnectionError)
 
@@ -49,9 +49,9 @@ def is_own_fault(record: logging.LogRecord) -> bool:
 async def multiplexed(
     place: Endpoint, settings: Settings, again: asyncio.Event
 ) -> AsyncIterator[tuple[Endpoint, Multiplexer | ManyServers | None]]:
-    """Where requests can be sent at once, and the multiplexer, where it is one of this process.
+    """A context with the place to send requests to, and the multiplexer if it is in this process.
 
-    A command is started below a multiplexer, behind a socket that only its owner can open; it ends
+    A command is started below a multiplexer, behind a socket that only its owner can open. It ends
     in order, or at once when `again` is set. Raises StartFailed.
     """
     if not isinstance(place, Command):
@@ -76,7 +76,7 @@ async def multiplexed(
 
 
 async def run(where: str, place: Endpoint, settings: Settings, options: WebSettings) -> int:
-    """Serves HTTP at the port of loopback until a signal; gives the exit status.
+    """Serves HTTP at the loopback port until a signal. Returns the exit status.
 
     Raises PlaceError, StartFailed.
     """
@@ -99,9 +99,9 @@ async def run(where: str, place: Endpoint, settings: Settings, options: WebSetti
 async def served(
     application: web.Application, where: str, options: WebSettings
 ) -> AsyncIterator[str]:
-    """While the application is served at a port of loopback; the name of that.
+    """A context that serves the application at a loopback port, and gives its address.
 
-    At the end answers under way are given. Raises PlaceError.
+    At the end it finishes the answers under way. Raises PlaceError.
     """
     runner = web.AppRunner(
         application, access_log=None, max_line_size=MAX_LINE, max_field_size=MAX_LINE
@@ -122,7 +122,7 @@ async def served(
 
 
 def origin_of(word: str) -> str:
-    """The origin of pages that a word names; ArgumentTypeError for one that is none."""
+    """The origin of pages in a word. Raises ArgumentTypeError if it is none."""
     if not ORIGIN.fullmatch(word):
         raise argparse.ArgumentTypeError(
             f"an origin is as https://app.example, without a path, not {word!r}")
@@ -137,18 +137,18 @@ def parser() -> argparse.ArgumentParser:
     )
     option = result.add_argument
     option("--listen", metavar="[HOST:]PORT", default="127.0.0.1:8984",
-           help="the port of loopback (%(default)s)")
+           help="the loopback port (%(default)s)")
     option("--token-file", metavar="F", type=Path,
-           help="allow stores and drops to whoever sends the token in this file, which is made "
-           "where it is not there; without it there are none")
+           help="allow stores and drops to clients that send the token in this file, which is made "
+           "if it doesn't exist; without it there are none")
     option("--host", metavar="NAME", action="append", default=[],
-           help="another name of this server, as behind a proxy")
+           help="another host name of this server, as behind a proxy")
     option("--origin", metavar="ORIGIN", action="append", default=[], type=origin_of,
            help="a page of that origin, as https://app.example, may ask with the token")
     option("--names", choices=[it.value for it in Names], default=DEFAULTS.names.value,
-           help="what becomes of names with a colon, where a request does not say it")
+           help="what happens to names with a colon, unless a request says it")
     option("--body", type=positive, metavar="BYTES", default=DEFAULTS.body,
-           help="the most bytes of a document that is put (%(default)s)")
+           help="the most bytes of a document in a PUT (%(default)s)")
     option("--wait", type=duration, metavar="SECONDS", default=DEFAULTS.wait,
            help="how long the next piece of a body or an answer may take (%(default)g)")
     option("--head", type=duration, metavar="SECONDS", default=DEFAULTS.head,
@@ -156,25 +156,25 @@ def parser() -> argparse.ArgumentParser:
     option("--connections", type=positive, metavar="N", default=DEFAULTS.connections,
            help="connections at once (%(default)s); the one that has waited longest is closed")
     option("--answers", type=positive, metavar="BYTES", default=DEFAULTS.held,
-           help="all answers that wait for their clients, on the disk; above it the client with "
-           "most to read is cut off (%(default)s)")
+           help="bytes of all answers that wait for their clients, on the disk; above that the "
+           "client with most to read is cut off (%(default)s)")
     option("--requests", type=positive, metavar="N", default=DEFAULTS.requests,
-           help="requests that are carried out at once (%(default)s)")
+           help="requests that run at once (%(default)s)")
     add_limits(result)
     return result
 
 
 def main(words: Sequence[str] | None = None) -> int:
-    """Runs `xqs web` with these words; gives the exit status.
+    """Runs `xqs web` with these words. Returns the exit status.
 
-    0 after a signal that ended it, 1 where the server was lost, 2 for wrong words. Raises XqError,
-    ValueError and OSError where it can't begin.
+    0 after a signal that ended it, 1 if the server was lost, 2 for wrong words. Raises XqError,
+    ValueError and OSError if it can't begin.
     """
     before, command = split_command(sys.argv[1:] if words is None else words)
     given = parser().parse_args(before)
     place = asked_at(Command(tuple(command)) if command else server_of(given))
     if given.origin and not given.token_file:
-        raise ValueError("--origin wants --token-file: a page of elsewhere asks with the token")
+        raise ValueError("--origin needs --token-file: another site's page must send the token")
     token = read_token(given.token_file) if given.token_file else None
     options = replace(
         DEFAULTS, hosts=NAMES | {name.lower() for name in given.host},

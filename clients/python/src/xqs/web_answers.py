@@ -1,4 +1,4 @@
-"""Answers on their way from the server's text to the form that a request likes best."""
+"""Answers: from the server's text to the form that the request prefers."""
 
 import io
 import tempfile
@@ -30,12 +30,13 @@ from xqs.web_view import as_json, as_page_json
 from xqs.xml_out import KEEP, XmlWriter
 
 IN_MEMORY = 1 << 20
-"""An answer of so many bytes is kept in memory while it is sent, a longer one on the disk."""
+"""Up to this number of bytes an answer stays in memory while it is sent, a longer one on the
+disk."""
 
 
 @dataclass(frozen=True)
 class Wanted:
-    """How an answer is wanted: the header Accept, names as for `XmlWriter`, and whether each item
+    """The wishes of a request: the header Accept, names as for `XmlWriter`, and whether each item
     is wrapped in an element."""
 
     accept: str | None = None
@@ -43,13 +44,13 @@ class Wanted:
     is_wrapped: bool = False
 
     def check(self) -> None:
-        """HttpRefusal 406 where no answer can have a form that is accepted."""
+        """Raises HttpRefusal 406 if no form of an answer is accepted."""
         chosen(self.accept, XML_FORMS if self.is_wrapped else FORMS)
 
     def choose(self, is_whole: bool) -> str:
-        """The form; `is_whole` says whether the value is a text of XML by itself.
+        """The form; `is_whole` says whether the value is by itself a text of XML.
 
-        HttpRefusal 406 where it can't have a form that is accepted.
+        Raises HttpRefusal 406 if it has no accepted form.
         """
         if self.is_wrapped:
             return chosen(self.accept, XML_FORMS)
@@ -63,8 +64,8 @@ class Wanted:
 
 @dataclass
 class Body:
-    """An answer: its media type, its entity tag, and its bytes, which lie on the disk where they
-    are many, since they may have to wait for a slow client."""
+    """An answer: its media type, its entity tag, and its bytes. A long answer is on the disk, since
+    it may have to wait for a slow client."""
 
     form: str
     tag: str
@@ -72,26 +73,26 @@ class Body:
 
 
 def new_file() -> BinaryIO:
-    """A file in memory that goes to the disk when it grows."""
+    """A file in memory that moves to the disk when it grows."""
     return cast(BinaryIO, tempfile.SpooledTemporaryFile(max_size=IN_MEMORY))
 
 
 def body_of(form: str, entity_tag: str, text: str) -> Body:
-    """An answer that is a text."""
+    """An answer from a text."""
     file = new_file()
     file.write(text.encode())
     return Body(form, entity_tag, file)
 
 
 def answer_of(text: str, wanted: Wanted) -> Body:
-    """The answer that a reply's text makes. HttpRefusal 406."""
+    """The answer from a reply's text. Raises HttpRefusal 406."""
     state = state_of(text)
     form, spelled = _spelled(text, wanted)
     return body_of(form, wanted.tag(state, form), spelled)
 
 
 def _spelled(text: str, wanted: Wanted) -> tuple[str, str]:
-    """The form in which a reply's text is sent, and the text in it."""
+    """The form for a reply's text, and the text in that form."""
     form, items = wanted.choose(True), list[Spelled]()
     if form in XML_FORMS and not wanted.is_wrapped:
         items = list(spelled_items(text, wanted.names))
@@ -107,9 +108,10 @@ def _spelled(text: str, wanted: Wanted) -> tuple[str, str]:
 
 
 def document_in_parts(client: Client, address: str, wanted: Wanted) -> Body:
-    """The answer that a document makes which is too long for one reply.
+    """The answer from a document that is too long for one reply.
 
-    HttpRefusal 406; Refused as prof:REPLY where nothing can be stored, or JSON is wanted.
+    Raises HttpRefusal 406; Refused with prof:REPLY for JSON, or if a copy is needed and nothing may
+    be stored.
     """
     form, judge, state = wanted.choose(True), Judge(), StateHash()
     if form in (JSON, PAGE):
@@ -120,7 +122,7 @@ def document_in_parts(client: Client, address: str, wanted: Wanted) -> Body:
     try:
         _give(document_events(client, address), (judge.event, hashed.event, writer))
     except Refused as error:
-        # What can't be copied, since nothing can be stored, can't be had in parts.
+        # Without stores there is no copy, so the document can't be read in parts.
         raise Refused("prof:REPLY") if error.code == "xqs:READONLY" else error from error
     finally:
         out.detach()
@@ -130,7 +132,7 @@ def document_in_parts(client: Client, address: str, wanted: Wanted) -> Body:
 
 
 def _writer(form: str, names: str, write: Callable[[str], object]) -> Callable[[Event], object]:
-    """What takes the events of a document, and writes it in a form."""
+    """A writer that takes the events of a document, in a form."""
     if form != XQUERY:
         return XmlWriter(write, names).event
     writer = ConstructorWriter(write)
@@ -138,7 +140,7 @@ def _writer(form: str, names: str, write: Callable[[str], object]) -> Callable[[
 
 
 def _give(steps: Iterable[Event], takers: Sequence[Callable[[Event], object]]) -> None:
-    """Gives each event to all of them."""
+    """Passes each event to all of the writers."""
     for event in steps:
         for take in takers:
             take(event)

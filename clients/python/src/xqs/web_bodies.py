@@ -1,4 +1,4 @@
-"""Bodies of requests: their media types and character sets, and how long they may take to come."""
+"""Bodies of requests: their media types and character sets, and the time that they may take."""
 
 import asyncio
 import io
@@ -13,13 +13,13 @@ from xqs.web_forms import TEXT_XML, XML, XQUERY
 from xqs.web_status import HttpRefusal
 
 LEAST_RATE = 1024
-"""A body, or an answer, goes on at so many bytes a second at least, over all of its time."""
+"""The least rate, in bytes a second, of a body or an answer over its whole time."""
 
 
 def media_type(request: web.Request, others: tuple[str, ...] = ()) -> str:
-    """XML or XQUERY, by the Content-Type of a request; XML where there is none.
+    """XML or XQUERY, by the Content-Type of a request; XML if there is none.
 
-    HttpRefusal 415 for another one that is not among `others`, and for a body that is compressed.
+    Raises HttpRefusal 415 for a type that is not in `others` either, and for a compressed body.
     """
     kind = request.content_type if "Content-Type" in request.headers else XML
     coding = request.headers.get("Content-Encoding", "identity")
@@ -33,18 +33,18 @@ def media_type(request: web.Request, others: tuple[str, ...] = ()) -> str:
 
 
 def charset_of(request: web.Request) -> str | None:
-    """The character set that the Content-Type of a request names, if it does.
+    """The character set in the Content-Type of a request, if there is one.
 
-    HttpRefusal 415 where there is no such one.
+    Raises HttpRefusal 415 if it is unknown.
     """
     return known_charset(request.charset) if request.charset else None
 
 
 async def receive(request: web.Request, body: BinaryIO, most: int, wait: float) -> None:
-    """Takes the body of a request into a file, within limits of size and time.
+    """Reads the body of a request into a file, within limits of size and time.
 
-    HttpRefusal 413 beyond `most` bytes, and 408 where nothing comes for `wait` seconds, or less
-    than LEAST_RATE over all.
+    Raises HttpRefusal 413 above `most` bytes, and 408 if nothing comes for `wait` seconds, or less
+    than LEAST_RATE over the whole time.
     """
     size, begin = request.content_length or 0, time.monotonic()
     while size <= most:
@@ -61,7 +61,7 @@ async def receive(request: web.Request, body: BinaryIO, most: int, wait: float) 
 
 
 async def received_query(request: web.Request, wait: float) -> bytes:
-    """The body of a request that is a query."""
+    """The body of a request, as the text of a query."""
     body = io.BytesIO()
     await receive(request, body, protocol.MAX_REQUEST, wait)
     return body.getvalue()

@@ -1,7 +1,7 @@
-"""Connections of HTTP, with a time for each head of a request, and a bound for all of them.
+"""Connections of HTTP, with a time limit for each head of a request, and a limit for their number.
 
-aiohttp waits for the rest of a head for ever. So its protocol stands behind one that is told, by
-the handlers, when a request has come whole, and that closes a connection of which none does.
+aiohttp waits for the rest of a head without limit. So its protocol is wrapped: the handlers tell
+the wrapper when a request has come whole, and it closes a connection on which none does.
 """
 
 import asyncio
@@ -20,14 +20,15 @@ FULL = (
 )
 Inner: TypeAlias = asyncio.Protocol
 MOST_WAITS = 5
-"""So many times a head is awaited anew while the answer before it has not gone whole."""
+"""How many times the limit for a head is extended while the answer before it is still being
+sent."""
 
 
 class Connections:
     """All connections: at most `most` at once, each with `wait` seconds for a head.
 
-    Where there are too many, the one that has waited longest for a request is closed, and where all
-    have one, the newest is refused.
+    If there are too many, the one that has waited longest for a request is closed, and if all are
+    busy, the newest is refused.
     """
 
     def __init__(self, inner: Callable[[], Inner], most: int, wait: float) -> None:
@@ -41,7 +42,7 @@ class Connections:
         return Connection(self, self._inner())
 
     def begin(self, connection: "Connection") -> bool:
-        """A connection begins; whether there is room for it."""
+        """A connection begins. Returns whether there is room for it."""
         if len(self._all) >= self._most and self._idle:
             longest = next(iter(self._idle))
             self.end(longest)
@@ -51,7 +52,7 @@ class Connections:
         return len(self._all) <= self._most
 
     def set_busy(self, connection: "Connection", is_busy: bool) -> None:
-        """A request has come whole, or its answer has gone."""
+        """A request has come whole, or its answer has left."""
         self._idle.pop(connection, None)
         if not is_busy:
             self._idle[connection] = None
@@ -63,7 +64,7 @@ class Connections:
 
 
 class Connection(asyncio.Protocol):
-    """One connection, before the protocol that reads and answers its requests."""
+    """One connection, in front of the protocol that reads and answers its requests."""
 
     def __init__(self, connections: Connections, inner: Inner) -> None:
         self._connections, self._inner = connections, inner
@@ -74,7 +75,7 @@ class Connection(asyncio.Protocol):
         self._waits = 0
 
     def connection_made(self, transport: asyncio.BaseTransport) -> None:
-        """As asyncio calls it, like those below."""
+        """asyncio calls this and the methods below."""
         self._transport = cast(asyncio.Transport, transport)
         if not self._connections.begin(self):
             self._is_refused = True
@@ -115,9 +116,9 @@ class Connection(asyncio.Protocol):
 
     @contextmanager
     def request(self, ends_with_client: bool) -> Iterator[None]:
-        """While a request that has come whole is carried out, no head is awaited.
+        """A context in which a request is handled, so that no head is expected.
 
-        The task of one that ends with its client is cancelled when the connection is lost.
+        If the request ends with its client, its task is cancelled when the connection is lost.
         """
         self._stop_waiting()
         self._connections.set_busy(self, True)
@@ -140,7 +141,7 @@ class Connection(asyncio.Protocol):
         self._timer = loop.call_later(self._connections.wait, self._head_is_late)
 
     def _head_is_late(self) -> None:
-        """Ends the connection, unless the end of an answer is still on its way."""
+        """Ends the connection, unless the end of an answer is still being sent."""
         is_sending = self._transport and self._transport.get_write_buffer_size() > 0
         if is_sending and self._waits < MOST_WAITS:
             self._waits += 1
@@ -156,9 +157,9 @@ class Connection(asyncio.Protocol):
 
 @contextmanager
 def at_work(request: web.Request) -> Iterator[None]:
-    """While a request is carried out, its connection is not closed for want of another.
+    """A context in which a request is handled, so that its connection isn't closed to make room.
 
-    One that changes nothing ends with its client.
+    A request that changes nothing ends with its client.
     """
     transport = request.transport
     connection = transport.get_protocol() if transport else None

@@ -1,4 +1,4 @@
-"""`/metrics` and `/status`: how the servers below a web process do."""
+"""`/metrics` and `/status`: the figures of the servers below a web process."""
 
 import asyncio
 from collections.abc import Awaitable, Callable
@@ -18,7 +18,8 @@ Source = Callable[[str], Awaitable[str]]
 
 
 def source_of(multiplexer: Multiplexing | None, place: Endpoint) -> Source:
-    """What a multiplexer of this process says, or else the one that listens at the place."""
+    """The answer of the multiplexer in this process, or else of the one that listens at the
+    place."""
 
     async def own(name: str) -> str:
         assert multiplexer is not None

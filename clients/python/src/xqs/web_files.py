@@ -13,12 +13,12 @@ from xqs.web_status import HttpRefusal
 
 ZIP = "application/zip"
 REFUSED = "refused.txt"
-"""The file of an archive that says which documents are not in it, and why."""
+"""The file in an archive that names the documents that are not in it, with the reasons."""
 
 
 def addresses_as_json(body: bytes) -> str:
     """The addresses of files, for `{"paths": [..], "prefix": ".."}`, as an array of objects with
-    `path`, and `address` or the reason why it is `refused`. HttpRefusal where the body is none."""
+    `path`, and `address` or the reason why it is `refused`. Raises HttpRefusal for another body."""
     try:
         asked = json.loads(body)
         paths, prefix = asked["paths"], asked["prefix"]
@@ -37,9 +37,9 @@ def _address(path: str, prefix: str) -> dict[str, str]:
 
 
 def write_archive(client: Client, prefix: str, names: str, file: BinaryIO) -> None:
-    """Writes the documents below a prefix as `xqs export` does, into an archive.
+    """Writes the documents below a prefix into an archive, as `xqs export` does.
 
-    Those that no file of XML can be are left out, and named in a file of the archive.
+    It leaves out documents that no file of XML can hold, and names them in a file of the archive.
     """
     with tempfile.TemporaryDirectory(prefix="xqs-web-") as folder:
         exporter = Exporter(client, Path(folder), "xml", names, False)

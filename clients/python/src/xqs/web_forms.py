@@ -1,4 +1,4 @@
-"""Values in the forms in which HTTP gives them: XML, plain text, constructors, JSON."""
+"""The forms of values in HTTP: XML, plain text, constructors, JSON."""
 
 import io
 import json
@@ -13,33 +13,32 @@ from xqs.xml_out import XmlWriter, atom_text
 XML, TEXT_XML, TEXT = "application/xml", "text/xml", "text/plain"
 XQUERY, JSON = "application/xquery", "application/json"
 PAGE = "application/vnd.xqs.page+json"
-"""What the page asks for; nobody else has to."""
+"""The form for the page; no other client has to ask for it."""
 XML_FORMS = (XML, TEXT_XML)
 FORMS = (*XML_FORMS, TEXT, XQUERY, JSON, PAGE)
-"""The forms of a value that is a text of XML; the first is that of a request which asks for
-none."""
+"""The forms of a value that is a text of XML; the first one is the default."""
 OTHER_FORMS = FORMS[len(XML_FORMS):]
 """The forms of any other value."""
 LIST_FORMS = (*XML_FORMS, TEXT, XQUERY, JSON)
 IN_UTF8 = (*XML_FORMS, TEXT, XQUERY)
-"""The forms whose character set is told."""
+"""The forms with a character set in their Content-Type."""
 QUALITY = re.compile(r"0(\.\d{0,9})?|1(\.0{0,9})?")
 _VERBATIM = (NodeKind.COMMENT, NodeKind.INSTRUCTION)
-"""Of these XML has the text as it stands, and so no carriage return."""
+"""The kinds of nodes whose text XML can't escape, so that they can't have a carriage return."""
 NAMESPACE = "http://basex.org/rest"
-"""That of BaseX's answers, whose element names these have."""
+"""The namespace of BaseX's answers; the elements here have the names of those."""
 
 
 def chosen(accept: str | None, offered: Sequence[str]) -> str:
-    """The first of the offered media types among those that an Accept header likes best.
+    """The first of the media types that an Accept header prefers among those offered.
 
-    HttpRefusal 406 where it likes none.
+    Raises HttpRefusal 406 if it accepts none.
     """
     wishes = [_wish(part) for part in (accept or "*/*").split(",") if part.strip()]
     ranked = [(_quality(wishes, form), -at) for at, form in enumerate(offered)]
     quality, at = max(ranked)
     if quality <= 0:
-        raise HttpRefusal(406, "xqs:ACCEPT", f"it can be had as {', '.join(offered)}")
+        raise HttpRefusal(406, "xqs:ACCEPT", f"the available forms are {', '.join(offered)}")
     return offered[-at]
 
 
@@ -52,12 +51,12 @@ def _wish(part: str) -> tuple[str, float]:
 
 
 def _quality_of(text: str) -> float:
-    """A number from 0 to 1; any other text likes nothing."""
+    """A number from 0 to 1; 0 for any other text."""
     return float(text) if QUALITY.fullmatch(text) else 0.0
 
 
 def _quality(wishes: list[tuple[str, float]], form: str) -> float:
-    """How much the most exact of the wishes that a media type meets likes it."""
+    """The quality that the most specific matching range gives to a media type."""
     exact = [quality for name, quality in wishes if name == form]
     family = [quality for name, quality in wishes if name == form.split("/")[0] + "/*"]
     anything = [quality for name, quality in wishes if name == "*/*"]
@@ -66,8 +65,8 @@ def _quality(wishes: list[tuple[str, float]], form: str) -> float:
 
 @dataclass(frozen=True)
 class Spelled:
-    """An item: its type, its XML, a line of plain text for it, and whether the XML is a text of
-    XML by itself, as one element is."""
+    """An item: its type, its XML, a line of plain text for it, and whether its XML is by itself a
+    text of XML, as that of one element is."""
 
     type: str
     xml: str
@@ -76,14 +75,14 @@ class Spelled:
 
 
 class Judge:
-    """Takes the events of one item: is there a text of XML that gives it, and nothing else?"""
+    """Takes the events of one item, and finds out whether exactly that item is a text of XML."""
 
     def __init__(self) -> None:
         self._depth = self._elements = self._top = 0
         self._has_other = False
 
     def event(self, event: Event) -> bool:
-        """Takes the next event; whether the item ends with it."""
+        """Takes the next event. Returns whether the item ends with it."""
         match event:
             case Open(NodeKind.DOCUMENT, _):
                 self._top = 1
@@ -99,12 +98,12 @@ class Judge:
 
     @property
     def is_whole(self) -> bool:
-        """Whether the item, which has ended, is a text of XML by itself."""
+        """Whether the item, which has ended, is by itself a text of XML."""
         return self._elements == 1 and not self._has_other
 
 
 class _Speller:
-    """Spells one item, as its events come."""
+    """Writes one item, as its events come."""
 
     def __init__(self, first: Event, names: str) -> None:
         self._first = first
@@ -113,7 +112,7 @@ class _Speller:
         self._writer = XmlWriter(self._out.write, names)
 
     def event(self, event: Event) -> bool:
-        """Takes the next event; whether the item ends with it."""
+        """Takes the next event. Returns whether the item ends with it."""
         self._writer.event(event)
         return self._judge.event(event)
 
@@ -129,9 +128,9 @@ class _Speller:
 
 
 def spelled_items(text: str, names: str) -> Iterator[Spelled]:
-    """The printed items one by one; `names` as for `xml_out.XmlWriter`.
+    """The printed items one by one; `names` as in `xml_out.XmlWriter`.
 
-    Misspelt where the text is no printed value.
+    Raises Misspelt if the text is no printed value.
     """
     speller: _Speller | None = None
     for event in events(text):
@@ -172,7 +171,7 @@ def list_as_json(addresses: Sequence[str]) -> str:
 
 
 def list_as_text(addresses: Sequence[str]) -> str:
-    """The addresses, each in a line."""
+    """The addresses, one per line."""
     return "".join(f"{it}\n" for it in addresses)
 
 

@@ -1,9 +1,10 @@
-"""Who may ask: names of this machine, pages of its own, and for changes whoever has the token.
+"""Who may ask: requests to the names of this machine, from its own pages, and for changes only with
+the token.
 
-A page of elsewhere that runs in a browser on this machine can send requests to it, also under a
-name of its own that it has pointed here. So the name that a request was sent to has to be known,
-and a request that a browser says another page has made is refused, unless the page's origin is one
-that may ask, and it sends the token.
+A page of another site in a browser on this machine can send requests here, also under a host name
+of its own that points here. So the host name of a request must be known. A request that comes from
+another site's page, as the browser says, is refused, unless that site's origin may ask and the
+request has the token.
 """
 
 import base64
@@ -19,61 +20,62 @@ from xqs.errors import XqError
 from xqs.web_status import HttpRefusal
 
 NAMES = frozenset(("127.0.0.1", "localhost", "[::1]"))
-"""The names under which a server on loopback may be called, at any port."""
+"""The names of a server on loopback, at any port."""
 READS = frozenset(("GET", "HEAD"))
 CHANGES = frozenset(("PUT", "DELETE"))
 OWN_PAGES = ("same-origin", "none")
-"""What a browser says of a request of the page itself, or of whoever sits before it."""
+"""What a browser says about a request of the page itself, or of the user."""
 EXPOSED = "ETag, Link, Location, Server-Timing, Xqs-Code, Xqs-Place, Xqs-Total"
-"""The headers of an answer that a page of elsewhere may read, beside those that each may."""
+"""The headers of an answer that other sites' pages may read, besides those that any may."""
 ORIGIN = re.compile(r"https?://[a-z0-9.\-\[\]:]+|null")
 """How a browser writes the origin of a page."""
 LEAST_TOKEN = 16
-"""A token has at least so many characters."""
+"""The least number of characters of a token."""
 
 
 class TokenFault(XqError):
-    """A file of a token that can't be used, and why."""
+    """A token's file that can't be used; the message says why."""
 
 
 def name_of_host(host: str) -> str:
-    """The name in a Host header, without its port, in small letters."""
+    """The name in a Host header, without its port, in lower case."""
     name, colon, port = host.rpartition(":")
     return (name if colon and (port.isdigit() or not port) else host).lower()
 
 
 def check_host(host: str | None, names: frozenset[str]) -> None:
-    """Refuses a request that was sent to a name that is not ours."""
+    """Refuses a request that was sent to an unknown name."""
     if not host or name_of_host(host) not in names:
         raise HttpRefusal(403, "xqs:HOST", f"this server is not called {host or 'nothing'}")
 
 
 def is_guest(origin: str | None, origins: frozenset[str]) -> bool:
-    """Whether a page of elsewhere has asked whose origin may ask, with the token."""
+    """Whether the request is from a page whose origin may ask, and has the token."""
     return origin is not None and origin in origins
 
 
 def check_guest(headers: Mapping[str, str], token: str | None) -> None:
-    """Refuses a request of such a page without the token, reads too.
+    """Refuses a request of such a page without the token, even a read.
 
-    A browser sends a user and a password by itself once it knows them, so Bearer is wanted.
+    Only Bearer counts: a browser sends a user and a password by itself once it knows them.
     """
     given = headers.get("Authorization", "")
     is_bearer = given.partition(" ")[0].lower() == "bearer"
     if token is None or not is_bearer or not _is_token(given, token):
         raise HttpRefusal(
-            401, "xqs:TOKEN", "a page of elsewhere has to send Authorization: Bearer TOKEN",
+            401, "xqs:TOKEN", "another site's page must send Authorization: Bearer TOKEN",
             {"WWW-Authenticate": 'Bearer realm="xqs"'},
         )
 
 
 def guest_headers(origin: str) -> dict[str, str]:
-    """What tells a browser that the page of that origin may have the answer."""
+    """The headers that let the page of that origin read the answer."""
     return {"Access-Control-Allow-Origin": origin, "Access-Control-Expose-Headers": EXPOSED}
 
 
 def preflight_headers(allow: str) -> dict[str, str]:
-    """What tells a browser which requests such a page may make, at a path of these methods."""
+    """The headers that tell a browser which requests such a page may make, at a path with these
+    methods."""
     return {
         "Access-Control-Allow-Methods": allow,
         "Access-Control-Allow-Headers": "Authorization, Content-Type, If-Match, If-None-Match",
@@ -82,11 +84,11 @@ def preflight_headers(allow: str) -> dict[str, str]:
 
 
 def check_origin(method: str, path: str, headers: Mapping[str, str]) -> None:
-    """Refuses a request that a page of elsewhere has made; following a link to `/` is none."""
+    """Refuses a request of another site's page; a link to `/` may be followed."""
     site = headers.get("Sec-Fetch-Site")
     is_visit = path == "/" and method in READS and headers.get("Sec-Fetch-Mode") == "navigate"
     if site is not None and site not in OWN_PAGES and not is_visit:
-        raise HttpRefusal(403, "xqs:ORIGIN", f"a page of elsewhere has asked ({site})")
+        raise HttpRefusal(403, "xqs:ORIGIN", f"another site's page has asked ({site})")
     origin = headers.get("Origin")
     scheme, _, place = (origin or "").partition("://")
     if origin is not None and (scheme not in ("http", "https") or place != headers.get("Host")):
@@ -94,7 +96,7 @@ def check_origin(method: str, path: str, headers: Mapping[str, str]) -> None:
 
 
 def check_token(method: str, given: str | None, token: str | None) -> None:
-    """Refuses a change without the token, and every change where there is no token."""
+    """Refuses a change without the token, and every change if there is no token."""
     if method not in CHANGES:
         return
     if token is None:
@@ -103,8 +105,8 @@ def check_token(method: str, given: str | None, token: str | None) -> None:
         )
     if not _is_token(given or "", token):
         raise HttpRefusal(
-            401, "xqs:TOKEN", "a store or a drop wants Authorization: Bearer TOKEN, or Basic with "
-            "the token for a password", {"WWW-Authenticate": 'Bearer realm="xqs"'},
+            401, "xqs:TOKEN", "a store or a drop needs Authorization: Bearer TOKEN, or Basic with "
+            "the token as its password", {"WWW-Authenticate": 'Bearer realm="xqs"'},
         )
 
 
@@ -113,7 +115,7 @@ def _is_token(given: str, token: str) -> bool:
 
 
 def _secret_in(given: str) -> bytes:
-    """The token that a header Authorization has, or the password; empty where it has none."""
+    """The token in a header Authorization, or the password; empty if there is none."""
     scheme, _, word = given.partition(" ")
     if scheme.lower() == "bearer":
         return word.strip().encode(errors="replace")
@@ -126,9 +128,9 @@ def _secret_in(given: str) -> bytes:
 
 
 def read_token(path: Path) -> str:
-    """The token in a file of its owner; a new one, where there is no file yet.
+    """The token in its owner's file; makes a new one if there is no file.
 
-    Raises TokenFault where others may read the file, or it holds no token, and OSError.
+    Raises TokenFault if others may read the file, or if it holds no token; and OSError.
     """
     try:
         new = os.open(path, os.O_WRONLY | os.O_CREAT | os.O_EXCL, 0o600)
@@ -145,7 +147,7 @@ def _token_of(path: Path) -> str:
         mode = stat.S_IMODE(os.fstat(file.fileno()).st_mode)
         token = file.read(1 << 12).decode("utf-8", "replace").strip()
     if mode & 0o077:
-        raise TokenFault(f"{path}: others may read it (mode {mode:04o}); chmod 600 mends that")
+        raise TokenFault(f"{path}: others may read it (mode {mode:04o}); chmod 600 repairs that")
     if len(token) < LEAST_TOKEN or not token.isascii() or not token.isprintable() or " " in token:
         raise TokenFault(
             f"{path}: a token is one line of {LEAST_TOKEN} or more visible ASCII characters")

@@ -1,4 +1,4 @@
-"""The body of a PUT, as the document that it is."""
+"""The body of a PUT, as a document."""
 
 from dataclasses import dataclass
 from typing import BinaryIO
@@ -26,8 +26,8 @@ from xqs.xml_names import Names
 
 @dataclass(frozen=True)
 class Put:
-    """A body: its name in messages, its media type, its bytes, what becomes of names with a colon,
-    and the character set that the transport names."""
+    """A body: its name in messages, its media type, its bytes, what happens to names with a colon,
+    and the character set of the transport."""
 
     name: str
     kind: str
@@ -36,10 +36,10 @@ class Put:
     charset: str | None
 
     def store(self, client: Client, address: str) -> bool:
-        """Stores the document at any address; whether it replaced another one.
+        """Stores the document at any address. Returns whether it replaced another one.
 
-        XmlFault, PlacedFault, PrefixFault, HttpRefusal where the body is refused; nothing has been
-        sent then.
+        Raises XmlFault, PlacedFault, PrefixFault, HttpRefusal if the body is refused; then nothing
+        has been sent.
         """
         temporary = Temporary()
         return store_at(client, address, self._document(temporary), temporary).replaced

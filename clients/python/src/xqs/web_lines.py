@@ -1,4 +1,4 @@
-"""XML in lines for the eye, which joined are the exact XML."""
+"""XML in indented lines for people; joined, the lines are the exact XML."""
 
 from dataclasses import dataclass
 
@@ -6,14 +6,14 @@ from xqs.values import Close, Event, Leaf, NodeKind, Open
 from xqs.xml_out import KEEP, XmlWriter
 
 LEFT_OUT = -1
-"""In the place of a depth: white space that the indented form does without."""
+"""The depth of white space that the indented form leaves out."""
 Line = tuple[int, str]
 _SPACE = frozenset(" \t\n\r")
 
 
 @dataclass(slots=True)
 class _Open:
-    """An open node: at which of the breaks its content begins, and what has come of that."""
+    """An open node: at which break its content begins, and what has come of it."""
 
     breaks: int
     is_mixed: bool
@@ -22,14 +22,15 @@ class _Open:
 
 
 class LineWriter:
-    """Takes the events of items, one after the other.
+    """Takes the events of items, one after another.
 
-    A line begins before each child of an element that holds no text but white space, and before its
-    end. Nothing in an element with other texts, or with `xml:space="preserve"`, begins a line.
+    Each child of an element begins a line, and so does the end of the element, if the element has
+    no text but white space. In an element with other texts, or with `xml:space="preserve"`, nothing
+    begins a line.
     """
 
     def __init__(self, names: str = KEEP) -> None:
-        """`names` as for `xml_out.XmlWriter`."""
+        """`names` as in `xml_out.XmlWriter`."""
         self._pieces: list[str] = []
         self._writer = XmlWriter(self._pieces.append, names)
         self._breaks: list[tuple[int, int]] = [(0, 0)]
@@ -41,7 +42,7 @@ class LineWriter:
         begin = len(self._pieces)
         self._writer.event(event)
         if begin < len(self._pieces) and self._pieces[begin] == ">":
-            # The end of the tag in which this node stands.
+            # The end of the tag around this node.
             begin += 1
         match event:
             case Open(kind, _):
@@ -59,7 +60,7 @@ class LineWriter:
                 self._close(begin)
 
     def take_lines(self) -> list[Line]:
-        """The lines of the item with their depths, once it has ended; the next one may follow."""
+        """The lines of the item with their depths, once it has ended; another one may follow."""
         pieces, breaks = self._pieces, self._breaks
         if len(breaks) == 1:
             lines = [(0, "".join(pieces))] if pieces else []
@@ -80,7 +81,7 @@ class LineWriter:
             self._open[-1].is_mixed = True
 
     def _child(self, begin: int, is_text: bool, is_space: bool = False) -> None:
-        """A child begins at a piece of the node that is open."""
+        """A child of the open node begins, at this piece."""
         if not self._open:
             return
         parent = self._open[-1]
@@ -92,7 +93,7 @@ class LineWriter:
             self._breaks.append((begin, LEFT_OUT if is_text else self._depth()))
 
     def _depth(self) -> int:
-        """The depth of a child of the node that is open; a document takes no depth."""
+        """The depth of a child of the open node; a document takes no depth."""
         return len(self._open) - self._is_document
 
     def _close(self, begin: int) -> None:

@@ -1,4 +1,4 @@
-"""Lists of addresses, those below a prefix and page by page."""
+"""Lists of addresses, those with a prefix and page by page."""
 
 import bisect
 import urllib.parse
@@ -8,22 +8,22 @@ from dataclasses import dataclass
 from xqs.web_query import Parameters, whole_number
 
 TOTAL = "Xqs-Total"
-"""The header that says how many addresses the pages have in all."""
+"""The header with the number of addresses on all pages."""
 LIST_PARAMETERS = ("prefix", "limit", "after")
 
 
 @dataclass(frozen=True)
 class Listing:
-    """Which addresses are asked for: those that begin with `prefix` and come after `after`, at most
-    `limit` of them, where that is not None."""
+    """The addresses in a request: those that begin with `prefix` and come after `after`, at most
+    `limit` of them unless that is None."""
 
     prefix: str = ""
     after: str = ""
     limit: int | None = None
 
     def page(self, addresses: Sequence[str]) -> tuple[list[str], dict[str, str]]:
-        """The addresses that are asked for of all, which are in order; and headers that tell how
-        many have the prefix, and the URL of the next page."""
+        """The requested ones of all addresses, which are in order; and headers with the number that
+        have the prefix, and the URL of the next page."""
         found = [it for it in addresses if it.startswith(self.prefix)]
         begin = bisect.bisect_right(found, self.after)
         end = len(found) if self.limit is None else begin + self.limit
@@ -39,7 +39,7 @@ def _encoded(words: Mapping[str, str]) -> str:
 
 
 def listing_of(given: Parameters) -> Listing:
-    """The list that a URL asks for; HttpRefusal for a parameter that there is not."""
+    """The list in a URL. Raises HttpRefusal for an unknown parameter."""
     words = given.only(LIST_PARAMETERS)
     limit = words.get("limit")
     return Listing(

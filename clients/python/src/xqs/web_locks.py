@@ -14,7 +14,7 @@ class Locks:
 
     @asynccontextmanager
     async def held(self, address: str) -> AsyncIterator[None]:
-        """While the address is held, whoever else wants it waits."""
+        """A context that holds the address; others wait for it."""
         lock = self._locks.setdefault(address, asyncio.Lock())
         self._users[address] = self._users.get(address, 0) + 1
         try:

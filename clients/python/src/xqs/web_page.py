@@ -1,5 +1,4 @@
-"""The page of `xqs web`: its files, those of CodeMirror where that is installed, and what a browser
-is told of them."""
+"""The page of `xqs web`: its files, those of CodeMirror if it is installed, and their headers."""
 
 import json
 from collections.abc import Callable
@@ -18,9 +17,9 @@ POLICY = (
     "img-src 'self' data:; base-uri 'none'; form-action 'none'; frame-ancestors 'none'; "
     "require-trusted-types-for 'script'; trusted-types 'none'"
 )
-"""The browser runs the page's own scripts and uses its own styles, and no other."""
+"""The browser runs only the page's own scripts and uses only its own styles."""
 CODEMIRROR = Path("/usr/share/javascript/codemirror")
-"""Where Debian's package libjs-codemirror has its files."""
+"""The folder of Debian's package libjs-codemirror."""
 EDITOR = {
     "codemirror.css": "lib/codemirror.css",
     "show-hint.css": "addon/hint/show-hint.css",
@@ -30,24 +29,24 @@ EDITOR = {
     "closebrackets.js": "addon/edit/closebrackets.js",
     "show-hint.js": "addon/hint/show-hint.js",
 }
-"""The files of the editor in the order in which the page has them, by their names there."""
+"""The files of the editor in the page's order, by their names there."""
 HTML, WORDS = "page.html", "words.json"
 TYPES = {".html": "text/html", ".css": "text/css", ".js": "text/javascript",
          ".json": "application/json"}
 MARK = "<!-- editor -->"
-"""In the page's place of this stand the files of the editor."""
+"""The mark in the page that the files of the editor replace."""
 
 
 @dataclass(frozen=True)
 class Page:
-    """The page, in which names with a colon are written as `names` says, and by which documents can
-    be stored where that is allowed."""
+    """The page. `names` is its choice for names with a colon; it can store documents if that is
+    allowed."""
 
     names: Names
     can_change: bool
 
     def response(self, name: str) -> web.Response:
-        """A file of the page; the page itself for an empty name. HttpRefusal 404."""
+        """A file of the page; the page itself for an empty name. Raises HttpRefusal 404."""
         read = self._reader(name or HTML)
         if read is None:
             raise HttpRefusal(404, "xqs:HTTP", f"there is no /page/{name}")
@@ -56,7 +55,7 @@ class Page:
         return web.Response(text=read(), content_type=kind, headers=headers)
 
     def _reader(self, name: str) -> Callable[[], str] | None:
-        """What reads a file of that name; None where there is none."""
+        """What reads the file of that name; None if there is none."""
         if name == HTML:
             return self._html
         if name == WORDS:
@@ -77,7 +76,7 @@ class Page:
 
 
 def editor_tags() -> str:
-    """The elements by which the page has the editor; none where a file of it is missing."""
+    """The elements that load the editor; none if one of its files is missing."""
     if not all((CODEMIRROR / file).is_file() for file in EDITOR.values()):
         return ""
     return "\n".join(map(_tag, EDITOR))
@@ -90,6 +89,6 @@ def _tag(name: str) -> str:
 
 
 def words() -> str:
-    """The words that a query may go on to, as JSON."""
+    """The completions for a query, as JSON."""
     functions = [*places.FUNCTIONS, *(f"xs:{it}" for it in places.TYPES)]
     return json.dumps({"functions": sorted(functions), "keywords": sorted(places.KEYWORDS)})

@@ -1,4 +1,4 @@
-"""A query that comes by HTTP: from the URL, or in a body as BaseX's REST has it."""
+"""A query by HTTP: from the URL, or in a body as in BaseX's REST."""
 
 import re
 import xml.etree.ElementTree as ElementTree
@@ -19,10 +19,10 @@ VARIABLE = re.compile(r"\$?([A-Za-z_]\w*)")
 
 
 class Parameters:
-    """The parameters of a URL, each of which is given once."""
+    """The parameters of a URL, each given once."""
 
     def __init__(self, pairs: Iterable[tuple[str, str]]) -> None:
-        """HttpRefusal where one is given twice."""
+        """Raises HttpRefusal if one is given twice."""
         self._values: dict[str, str] = {}
         for name, value in pairs:
             if name in self._values:
@@ -36,11 +36,11 @@ class Parameters:
         return iter(self._values)
 
     def items(self) -> Iterable[tuple[str, str]]:
-        """Names and values, in their order."""
+        """Names and values, in order."""
         return self._values.items()
 
     def only(self, names: Iterable[str]) -> dict[str, str]:
-        """The values by their names; HttpRefusal where there is one of another name."""
+        """The values by name. Raises HttpRefusal for a name that is not allowed."""
         for name in self._values:
             if name not in names:
                 raise unknown_parameter(name)
@@ -48,12 +48,12 @@ class Parameters:
 
 
 def unknown_parameter(name: str) -> HttpRefusal:
-    """The refusal of a parameter that means nothing here: it is not passed over."""
+    """The refusal of an unknown parameter, which is not ignored."""
     return HttpRefusal(400, "xqs:REQUEST", f"there is no parameter {name} here")
 
 
 def whole_number(name: str, value: str) -> int:
-    """A whole number from 1; else HttpRefusal."""
+    """A whole number from 1. Raises HttpRefusal for any other text."""
     if not re.fullmatch("[0-9]{1,9}", value) or int(value) < 1:
         raise HttpRefusal(400, "xqs:REQUEST", f"{name} is a whole number from 1, not {value!r}")
     return int(value)
@@ -61,8 +61,8 @@ def whole_number(name: str, value: str) -> int:
 
 @dataclass
 class Asked:
-    """A query, the values of its variables, and how its result is wanted; `folder` is what its
-    `collection()` has, all documents where it is None."""
+    """A query, the values of its variables, and the wanted form of its result. `folder` is the
+    folder of its `collection()`, None for all documents."""
 
     text: str | None = None
     folder: str | None = None
@@ -71,7 +71,7 @@ class Asked:
     is_wrapped: bool = False
 
     def take(self, name: str, value: str) -> None:
-        """Takes a parameter of a URL; HttpRefusal for one that there is not."""
+        """Takes a parameter of a URL. Raises HttpRefusal for an unknown one."""
         match name:
             case "query":
                 self.text = value
@@ -94,18 +94,18 @@ class Asked:
         self.variables[found[1]] = value
 
     def is_whole(self) -> bool:
-        """Whether a whole document is asked for, and not some query about it."""
+        """Whether it asks for a whole document, and not for a query about it."""
         return self.text is None and not self.is_wrapped
 
     def may_ask_for_folders(self) -> bool:
-        """Whether addresses may be wanted for the query."""
+        """Whether the query may need addresses."""
         return may_ask_for_folders(self.text or "", self.folder)
 
     def question(self, addresses: Callable[[], list[str]] = list) -> Question | None:
-        """The query with flat names, where that is the choice, and with the documents of its
-        folders; None where there is no query. `addresses` is called where folders are asked for.
+        """The query with flat names, if that is the choice, and with the documents of its folders;
+        None if there is no query. `addresses` is called only if folders are asked for.
 
-        PrefixFault for a name that flat names have no room for; FolderFault.
+        Raises PrefixFault for a name that has no flat name; FolderFault.
         """
         if self.text is None:
             if self.folder is not None:
@@ -114,9 +114,10 @@ class Asked:
         return question_over(addresses, self.text, self.names, self.folder)
 
     def query(self, question: Question | None, address: str = "") -> str:
-        """The text to be sent; of the document at an address, where one is given.
+        """The text to send; about the document at an address, if one is given.
 
-        Values are quoted: none is read as a query. ValueError for characters that XML hasn't.
+        Values are quoted, so none is read as a query. Raises ValueError for characters that XML
+        doesn't have.
         """
         text = None if question is None else question.asked.text
         if address:
@@ -128,30 +129,30 @@ class Asked:
 
 
 def truth(name: str, value: str) -> bool:
-    """What yes and no mean; HttpRefusal for another word."""
+    """The meaning of yes and no. Raises HttpRefusal for another word."""
     return choice(name, value.lower(), YES + NO) in YES
 
 
 def choice(name: str, value: str, choices: Iterable[str]) -> str:
-    """The value, where it is one of the choices; else HttpRefusal."""
+    """The value, if it is one of the choices. Raises HttpRefusal if not."""
     if value not in choices:
         raise HttpRefusal(400, "xqs:REQUEST", f"{name} is one of: {', '.join(choices)}")
     return value
 
 
 class _Builder(ElementTree.TreeBuilder):
-    """Refuses a text with a DOCTYPE, by which entities could be declared."""
+    """Refuses a text with a DOCTYPE, which could declare entities."""
 
     def doctype(self, name: str, public: str | None, system: str | None) -> None:
-        """What the parser calls where it meets one."""
+        """The parser calls this at a DOCTYPE."""
         raise HttpRefusal(400, "xqs:XML", "a query has no DOCTYPE")
 
 
 def take_body(asked: Asked, body: bytes, charset: str | None = None) -> None:
-    """Takes the query of a body of XML, `<query><text>..</text><variable ../></query>`, in a
-    character set that may be known beside it.
+    """Reads the query from a body of XML, `<query><text>..</text><variable ../></query>`, in the
+    character set of the transport if that is known.
 
-    HttpRefusal where it is none.
+    Raises HttpRefusal if it is invalid.
     """
     if charset:
         body, charset = decoded(body, charset).encode(), "utf-8"

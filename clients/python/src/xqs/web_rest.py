@@ -47,7 +47,7 @@ from xqs.xml_out import FLAT, KEEP
 Handler = Callable[[web.Request], Awaitable[web.StreamResponse]]
 T = TypeVar("T")
 SHORT = 1 << 16
-"""A reply of so many characters is put into another form at once, a longer one in a thread."""
+"""A longer reply, in characters, is put into another form by a thread."""
 MAX_LINE = 1 << 16
 """The longest line of a request's head, in bytes."""
 HEADERS = {
@@ -60,19 +60,18 @@ HEADERS = {
     "X-Content-Type-Options": "nosniff",
     "X-Frame-Options": "DENY",
 }
-"""What each answer says to browsers: it is no page, and no other page's."""
+"""Headers of each answer: it is no page, and no part of another page."""
 LIST_METHODS, DOCUMENT_METHODS = "GET, HEAD, POST, OPTIONS", "GET, HEAD, POST, PUT, DELETE, OPTIONS"
 
 
 @dataclass(frozen=True)
 class WebSettings:
-    """Who may do what: the names of this server, and the token for changes, None for no changes.
+    """Access and limits: the names of this server, and the token for changes, None for no changes.
 
-    `origins` are those of pages of elsewhere that may ask, if they send the token. `names` is what
-    becomes of names with a colon in XML, where a request does not say it: a choice
-    of `Names`. `body` is the most bytes of a body, `wait` the seconds for the next piece of a body
-    or of an answer, `head` those for the head of a request. `requests` is how many are carried out
-    at once, `connections` how many there are at once.
+    `origins` are the other sites whose pages may ask, with the token. `names` is the default choice
+    of `Names` for names with a colon in XML. `body` is the most bytes of a body, `wait` the seconds
+    for the next piece of a body or an answer, `head` those for the head of a request. `requests` is
+    how many run at once, `connections` how many there may be.
     """
 
     hosts: frozenset[str] = NAMES
@@ -89,14 +88,14 @@ class WebSettings:
 
 
 async def in_thread_if(long: bool, function: Callable[..., T], *arguments: object) -> T:
-    """What the function gives, which is called in a thread where it takes long."""
+    """The function's result; a thread calls it if that takes long."""
     if long:
         return await asyncio.to_thread(function, *arguments)
     return function(*arguments)
 
 
 class Rest:
-    """The handlers, over the server at a place."""
+    """The handlers, in front of the server at a place."""
 
     def __init__(self, place: Endpoint, settings: WebSettings) -> None:
         self._place = place
@@ -132,7 +131,7 @@ class Rest:
         return application
 
     async def _guarded(self, request: web.Request, handler: Handler) -> web.StreamResponse:
-        """Checks who asks, and tells each error as a refusal."""
+        """Checks access, and turns each error into a refusal."""
         try:
             self._check(request)
             return await handler(request)
@@ -148,7 +147,7 @@ class Rest:
             return _refused(refusal)
 
     def _check(self, request: web.Request) -> None:
-        """HttpRefusal where whoever asks may not."""
+        """Raises HttpRefusal if the request has no access."""
         headers, token = request.headers, self._settings.token
         check_host(headers.get("Host"), self._settings.hosts)
         if not is_guest(headers.get("Origin"), self._settings.origins):
@@ -158,7 +157,7 @@ class Rest:
         check_token(request.method, headers.get("Authorization"), token)
 
     async def _add_headers(self, request: web.Request, response: web.StreamResponse) -> None:
-        """Adds what each answer says to browsers."""
+        """Adds the headers of each answer."""
         for name, value in HEADERS.items():
             response.headers.setdefault(name, value)
         response.headers["Server"] = "xqs"
@@ -170,7 +169,7 @@ class Rest:
 
     @asynccontextmanager
     async def _client(self) -> AsyncIterator[aio.AsyncClient]:
-        """A connection of the request's own, so that each has its turn among the others."""
+        """A connection for this request alone, so that each request has its turn."""
         async with await aio.connect(self._place, timeout=self._settings.seconds) as connection:
             yield connection
 
@@ -179,12 +178,12 @@ class Rest:
         return client.connect(self._place, timeout=self._settings.seconds)
 
     async def get_page(self, request: web.Request) -> web.Response:
-        """The page, or a file of it."""
+        """The page, or one of its files."""
         parameters_of(request).only(())
         return self._page.response(request.match_info.get("name", ""))
 
     async def post_paths(self, request: web.Request) -> web.Response:
-        """The addresses that files have by their paths."""
+        """The addresses that files get from their paths."""
         parameters_of(request).only(())
         media_type(request, (JSON,))
         body = await received_query(request, self._settings.wait)
@@ -207,11 +206,11 @@ class Rest:
 
     @property
     def _keep_or_flat(self) -> str:
-        """What becomes of names with a colon in answers, where a request does not say it."""
+        """The default choice for names with a colon in answers."""
         return FLAT if self._settings.names is Names.FLAT else KEEP
 
     async def options(self, request: web.Request) -> web.Response:
-        """The methods that there are at a path."""
+        """The methods of a path."""
         parameters_of(request).only(())
         is_document = "address" in request.match_info
         allow = DOCUMENT_METHODS if is_document else LIST_METHODS
@@ -219,7 +218,7 @@ class Rest:
         return web.Response(status=204, headers={"Allow": allow, **more})
 
     async def get_all(self, request: web.Request) -> web.StreamResponse:
-        """The answer to the query of the URL; the addresses, where there is none."""
+        """The answer to the query in the URL; the addresses if there is no query."""
         given = parameters_of(request)
         if not all(name in LIST_PARAMETERS for name in given):
             return await self._answer(request, self._asked(given), "")
@@ -232,11 +231,11 @@ class Rest:
         return await self._send(request, body_of(form, tag(state_of(text), form), text), headers)
 
     async def get(self, request: web.Request) -> web.StreamResponse:
-        """A document, or the answer to the query of the URL about it."""
+        """A document, or the answer to the query in the URL about it."""
         return await self._answer(request, self._asked(parameters_of(request)), address_of(request))
 
     async def post(self, request: web.Request) -> web.StreamResponse:
-        """The answer to the query of the body, about a document where there is an address."""
+        """The answer to the query in the body, about a document if there is an address."""
         asked, kind = self._asked(parameters_of(request)), media_type(request)
         charset = charset_of(request)
         if asked.text is not None:
@@ -278,8 +277,8 @@ class Rest:
         return await self._send(request, body, {"Server-Timing": f"server;dur={took * 1000:.3f}"})
 
     async def _value(self, query: str, whole: str) -> str:
-        """The value of a query; where it is the whole document at an address, that is refused as
-        prof:REPLY by its sizes, before the server prints it."""
+        """The value of a query. If it is the whole document at an address and too long, it is
+        refused with prof:REPLY because of its size, before the server prints it."""
         async with self._client() as connection:
             if whole:
                 text = await connection.query_text(ranges.look(whole))
@@ -291,7 +290,7 @@ class Rest:
             return await connection.query_text(query)
 
     async def _addresses(self, asked: Asked) -> list[str]:
-        """The addresses of the moment, where the query may want those of a folder."""
+        """The current addresses, if the query may need those of a folder."""
         if not asked.may_ask_for_folders():
             return []
         async with self._client() as connection:
@@ -313,7 +312,7 @@ class Rest:
         return await self._sender.send(request, body, headers)
 
     async def put(self, request: web.Request) -> web.Response:
-        """Stores a document of XML or of constructors; 201 where the address had none."""
+        """Stores a document of XML or of constructors; 201 if the address had none."""
         address, kind = address_of(request), media_type(request)
         check_lasting(address)
         charset, conditions = charset_of(request), conditions_of(request.headers)
@@ -355,19 +354,20 @@ class Rest:
 
 def _refused(refusal: HttpRefusal) -> web.Response:
     headers = {CODE: refusal.code, **refusal.headers}
-    # A request may have bytes that are no text, which stand in the sentence as escapes.
+    # A request may have invalid bytes, which the sentence shows as escapes.
     body = f"{refusal}\n".encode(errors="backslashreplace")
     return web.Response(
         status=refusal.status, body=body, content_type=TEXT, charset="utf-8", headers=headers)
 
 
 def _is_preflight(request: web.Request) -> bool:
-    """Whether a browser asks what a page of elsewhere may ask; it sends no token with that."""
+    """Whether a browser asks what another site's page may ask; it sends no token with that."""
     return request.method == "OPTIONS" and "Access-Control-Request-Method" in request.headers
 
 
 def parameters_of(request: web.Request) -> Parameters:
-    """The parameters of a request's URL; HttpRefusal where one is given twice, or is no UTF-8."""
+    """The parameters of a request's URL. Raises HttpRefusal if one is given twice, or has no
+    UTF-8."""
     text = request.rel_url.raw_query_string
     try:
         pairs = urllib.parse.parse_qsl(text, keep_blank_values=True, errors="strict")
@@ -377,7 +377,7 @@ def parameters_of(request: web.Request) -> Parameters:
 
 
 def address_of(request: web.Request) -> str:
-    """The address in the path of a request; HttpRefusal where it is none."""
+    """The address in the path of a request. Raises HttpRefusal if it is invalid."""
     address = request.match_info["address"]
     try:
         protocol.address_bytes(address)

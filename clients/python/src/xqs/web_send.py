@@ -14,12 +14,12 @@ from xqs.web_forms import IN_UTF8
 from xqs.web_tags import etag
 
 PIECE = 1 << 16
-"""An answer is sent in pieces of so many bytes, and each may wait for the client."""
+"""The size of the pieces of an answer, in bytes; each may wait for the client."""
 
 
 @dataclass(eq=False)
 class _Going:
-    """An answer on its way, and how many of its bytes have not gone."""
+    """An answer on its way, and how many of its bytes have not left."""
 
     request: web.Request
     left: int
@@ -31,10 +31,10 @@ class _Going:
 
 
 class Sender:
-    """Sends answers, of which at most `held` bytes wait for their clients.
+    """Sends answers; at most `held` bytes of all of them wait for their clients.
 
-    Where more would, the client that has most to read is cut off. So is one that takes nothing for
-    `wait` seconds, or takes less than LEAST_RATE over all.
+    Above that the client with most to read is cut off. So is a client that takes nothing for `wait`
+    seconds, or takes less than LEAST_RATE over the whole time.
     """
 
     def __init__(self, wait: float, held: int) -> None:
@@ -44,7 +44,7 @@ class Sender:
     async def send(
         self, request: web.Request, body: Body, headers: Mapping[str, str]
     ) -> web.StreamResponse:
-        """Answers with a body, which is closed then. ConnectionResetError where the client is cut
+        """Answers with a body, and closes it. Raises ConnectionResetError if the client is cut
         off."""
         with closing(body.bytes):
             size = body.bytes.seek(0, 2)
@@ -73,7 +73,7 @@ class Sender:
 
     @contextmanager
     def _counted(self, going: _Going) -> Iterator[_Going]:
-        """While an answer is sent its bytes are counted with those of the others."""
+        """A context in which an answer's bytes count with those of the others."""
         self._going.add(going)
         while len(self._going) > 1 and sum(it.left for it in self._going) > self._held:
             slowest = max(self._going, key=lambda it: it.left)

@@ -1,4 +1,4 @@
-"""What HTTP says of a request that was not done."""
+"""The HTTP answer to a request that failed."""
 
 from collections.abc import Mapping
 from dataclasses import dataclass, field, replace
@@ -21,19 +21,20 @@ STATUSES = {
     "xqs:MEMORY": 413,
     "xqs:SECONDS": 504,
 }
-"""The status of each code that the server refuses with, where it is not BAD."""
+"""The status of each code of the server, if it is not BAD."""
 BAD, WANTING, UNKNOWN = 400, 503, 502
 RETRY = {"Retry-After": "1"}
 SEARCHED = 1 << 14
-"""The place of a fault is looked for in queries of so many characters, lest others wait."""
+"""The place of a fault is found only in queries up to this number of characters, so that other
+requests need not wait."""
 CODE, PLACE = "Xqs-Code", "Xqs-Place"
-"""The headers that have the code of a refusal, and the line and the column where a query is at
-fault, as far as its tokens tell."""
+"""The headers with the code of a refusal, and with the line and column of the fault in a query, as
+far as its tokens show it."""
 
 
 @dataclass
 class HttpRefusal(XqError):
-    """A request that is answered with a status, a code and a sentence."""
+    """The answer to a request: a status, a code and a sentence."""
 
     status: int
     code: str
@@ -45,10 +46,10 @@ class HttpRefusal(XqError):
 
 
 def refusal_of(error: Exception, changes: bool) -> HttpRefusal | None:
-    """The refusal by which an error of the client is told; None where it is no such error.
+    """The refusal for an error of the client; None for any other error.
 
-    `changes` says whether the request was to store or to drop: where its connection ended without
-    a reply, it may have been carried out.
+    `changes` says whether the request was a store or a drop: if its connection ended without a
+    reply, it may have been carried out.
     """
     match error:
         case HttpRefusal():
@@ -66,7 +67,7 @@ def refusal_of(error: Exception, changes: bool) -> HttpRefusal | None:
         case KeptAddress():
             return HttpRefusal(403, "xqs:TEMPORARY", str(error))
         case FolderFault():
-            refusal = HttpRefusal(BAD, "xqs:FOLDER", "no documents of a folder can be put in")
+            refusal = HttpRefusal(BAD, "xqs:FOLDER", "the documents of a folder can't be put in")
             return _at(refusal, error.text, error.at, error.why)
         case PrefixFault():
             refusal = HttpRefusal(BAD, "xqs:NAMES", "a name has no flat name")
@@ -79,7 +80,7 @@ def refusal_of(error: Exception, changes: bool) -> HttpRefusal | None:
 
 
 def placed(error: Refused, question: Question | None) -> HttpRefusal:
-    """The refusal of a query, with the place of its fault where the text tells one."""
+    """The refusal of a query, with the place of its fault if its text shows it."""
     refusal = _told(error, STATUSES.get(error.code, BAD))
     if question is None or len(question.text) > SEARCHED:
         return refusal
@@ -88,7 +89,7 @@ def placed(error: Refused, question: Question | None) -> HttpRefusal:
 
 
 def _at(refusal: HttpRefusal, query: str, at: int, why: str) -> HttpRefusal:
-    """The refusal with a place of the query."""
+    """The refusal with a place in the query."""
     line, column = places.line_and_column(query, at)
     sentence = f"{refusal.sentence}\nline {line}, column {column}: {why}"
     return replace(refusal, sentence=sentence, headers={PLACE: f"{line}:{column}"})

@@ -1,8 +1,8 @@
-"""Documents stored and dropped under conditions, so that no update is lost.
+"""Stores and drops under conditions, so that no update is lost.
 
-The server has no conditional store, but a store evaluates a query, and changes nothing where that
-gives no document. So a document with a condition is stored under a temporary address first; then
-one request to the server asks for the condition and has the document, or nothing.
+The server has no conditional store, but a store evaluates a query, and changes nothing if the query
+gives no document. So a document with a condition is first stored under a temporary address. Then
+one request to the server checks the condition and gives the document, or nothing.
 """
 
 from collections.abc import Callable, Iterator
@@ -25,17 +25,17 @@ _NODES = """string-join(for $n in doc({})/descendant::node() return (
   then for $a in $n/@* return ("@", name($a), string-length(string($a)), string($a))
   else (if ($n/self::text()) then "t" else if ($n/self::comment()) then "c" else "p",
         string-length(string($n)), string($n))), "|")"""
-"""A text that two documents share where they have the same nodes, and only there."""
+"""A text that two documents share exactly if they have the same nodes."""
 
 
 def store_if(
     client: Client, address: str, conditions: Conditions, store: Callable[[str], object]
 ) -> bool:
-    """Stores a document where the conditions hold; whether it replaced another one.
+    """Stores a document if the conditions hold. Returns whether it replaced another one.
 
-    `store` is called with the address under which it has to store the document. HttpRefusal 412
-    where a condition fails, and nothing has changed then. The condition is judged and the document
-    is stored in one request: what any client of the server has stored before is seen.
+    `store` is called with the address at which it must store the document. Raises HttpRefusal 412
+    if a condition fails; then nothing has changed. One request checks the condition and stores the
+    document, so it sees all that any client of the server has stored before.
     """
     with _temporary(client) as new, _unchanged(client, address, conditions) as condition:
         store(new)
@@ -48,10 +48,10 @@ def store_if(
 
 
 def drop_if(client: Client, address: str, conditions: Conditions) -> None:
-    """Drops a document where the conditions hold; HttpRefusal 412 where one fails.
+    """Drops a document if the conditions hold. Raises HttpRefusal 412 if one fails.
 
-    The last look at the document and the drop are two requests: what another client of the server
-    stores between them is dropped.
+    The last check of the document and the drop are two requests: a document that another client of
+    the server stores between them is dropped.
     """
     with _unchanged(client, address, conditions) as condition:
         if client.query(condition) != [True]:
@@ -61,7 +61,7 @@ def drop_if(client: Client, address: str, conditions: Conditions) -> None:
 
 @contextmanager
 def _temporary(client: Client) -> Iterator[str]:
-    """An address that is free again at the end."""
+    """A context with a temporary address, where nothing is left at the end."""
     address = Temporary().next()
     try:
         yield address
@@ -72,9 +72,9 @@ def _temporary(client: Client) -> Iterator[str]:
 
 @contextmanager
 def _unchanged(client: Client, address: str, conditions: Conditions) -> Iterator[str]:
-    """A query that tells whether the document is as it was when the conditions were judged.
+    """A query that tells whether the document is as it was when the conditions were checked.
 
-    HttpRefusal 412 where they fail.
+    Raises HttpRefusal 412 if they fail.
     """
     name = quoted(address)
     if not conditions.wants_state:
@@ -93,7 +93,7 @@ def _unchanged(client: Client, address: str, conditions: Conditions) -> Iterator
 
 
 def _copied_state(client: Client, address: str, copy: str) -> str | None:
-    """The state of a document, of which a copy is made; None where there is no document."""
+    """The state of a document, which is copied for that; None if there is no document."""
     try:
         client.request_later(store_of(copy, f"doc({quoted(address)})")).result()
     except Refused as error:

@@ -1,4 +1,4 @@
-"""A sequence as a table: elements with the same parts, or texts with numbers, in turns."""
+"""A sequence as a table: elements with the same parts, or texts and numbers in alternation."""
 
 import re
 from collections.abc import Iterable, Iterator, Sequence
@@ -15,8 +15,7 @@ Row = dict[str, str]
 
 
 class Table(TypedDict):
-    """Columns with what each holds, `number` or `text`, and rows; a cell that a row lacks is
-    None."""
+    """Columns with the type of each, `number` or `text`, and rows; a missing cell is None."""
 
     columns: list[str]
     kinds: list[str]
@@ -24,11 +23,11 @@ class Table(TypedDict):
 
 
 def table_of(items: Iterable[Item], names: str) -> Table | None:
-    """The items as a table, or None where they make none.
+    """The items as a table, or None if they make none.
 
-    Each element is a row. Its columns are its attributes, as `@NAME`, and the elements in it, of
-    which none comes twice and none holds others. Of elements with a text alone that is the column.
-    A text and a number in turns are rows of two columns.
+    Each element is a row. Its columns are its attributes, as `@NAME`, and the elements in it, which
+    must have different names and no elements of their own. If all elements have only a text, the
+    column is that text. Texts and numbers in alternation make rows of two columns.
     """
     rest = iter(items)
     first = next(rest, None)
@@ -52,7 +51,7 @@ def _kind(cells: Sequence[str | None]) -> str:
 
 
 def _pairs(items: Iterator[Item]) -> list[Row]:
-    """Rows of a text and a number each; none where it is not so."""
+    """Rows of a text and a number each; none if the items are anything else."""
     rows: list[Row] = []
     for text in items:
         number = next(items, None)
@@ -63,7 +62,7 @@ def _pairs(items: Iterator[Item]) -> list[Row]:
 
 
 def _elements(items: Iterable[Item], names: str) -> list[Row]:
-    """A row for each element; none where one of them makes no row, or another one."""
+    """A row for each element; none if one of them makes no row, or has other columns."""
     rows: list[Row] = []
     for item in items:
         row = _row(item, names)
@@ -74,7 +73,7 @@ def _elements(items: Iterable[Item], names: str) -> list[Row]:
 
 
 def _row(item: Item, names: str) -> Row | None:
-    """The cells of an element; None for what is no row."""
+    """The cells of an element; None if it makes no row."""
     if not isinstance(item, Node) or item.kind is not NodeKind.ELEMENT:
         return None
     spell = speller(names)
@@ -99,5 +98,5 @@ def _is_space(node: Node) -> bool:
 
 
 def _is_plain(node: Node) -> bool:
-    """Whether an element holds a text alone."""
+    """Whether an element holds only a text."""
     return not node.attributes and all(it.kind is NodeKind.TEXT for it in node.children)

@@ -1,4 +1,4 @@
-"""Entity tags of HTTP: which state of a document or an answer was sent, and in which form."""
+"""Entity tags of HTTP: which state of a document or answer was sent, and in which form."""
 
 import base64
 import hashlib
@@ -10,19 +10,20 @@ from typing import BinaryIO, Protocol
 from xqs.web_status import HttpRefusal
 
 VERSION = b"1\n"
-"""Another one wherever the bytes of a form change while the server's text is the same."""
+"""The version of the forms. It changes whenever the bytes of a form change for the same text of the
+server."""
 _TAG = re.compile(r'[ \t]*(W/)?"([\x21\x23-\x7e\x80-\uffff]*)"[ \t]*(?:,|$)')
 ANY = "*"
 
 
 class Headers(Protocol):
-    """The headers of a request, of which several may have one name."""
+    """The headers of a request, some with the same name."""
 
     def getall(self, key: str, default: list[str], /) -> list[str]: ...
 
 
 class StateHash:
-    """Takes the text that the server prints, in pieces, and gives the state that it is."""
+    """Takes the server's text in pieces, and gives its state."""
 
     def __init__(self) -> None:
         self._hash = hashlib.blake2b(VERSION, digest_size=15)
@@ -32,12 +33,12 @@ class StateHash:
         self._hash.update(text.encode())
 
     def state(self) -> str:
-        """The state, as tags of it begin."""
+        """The state: the beginning of its tags."""
         return base64.urlsafe_b64encode(self._hash.digest()).decode()
 
 
 def state_of(text: str) -> str:
-    """The state that a whole text of the server is."""
+    """The state of a whole text of the server."""
     result = StateHash()
     result.write(text)
     return result.state()
@@ -46,7 +47,7 @@ def state_of(text: str) -> str:
 def tag(state: str, *form: str) -> str:
     """The entity tag of a state in a form, which a media type and choices name.
 
-    It is strong: the state and the form decide each byte.
+    It is strong: state and form determine each byte.
     """
     return f'"{state}-{"-".join(word.replace("/", ".") for word in form if word)}"'
 
@@ -61,14 +62,15 @@ def tag_of_file(file: BinaryIO) -> str:
 
 
 def state_in(entity_tag: str) -> str:
-    """The state by which a tag of this program begins."""
+    """The state with which a tag of this program begins."""
     return entity_tag.strip('"')[:20]
 
 
 @dataclass(frozen=True)
 class Conditions:
-    """What a request wants of the state as it is: `match` of If-Match, `none_match` of
-    If-None-Match. Each is a set of tags, weak ones with W/, or ANY; None where it is not there."""
+    """The conditions of a request on the current state: `match` from If-Match, `none_match` from
+    If-None-Match. Each is a set of tags, weak ones with W/, or ANY; None if the header is
+    absent."""
 
     match: frozenset[str] | None = None
     none_match: frozenset[str] | None = None
@@ -80,11 +82,11 @@ class Conditions:
 
     @property
     def wants_state(self) -> bool:
-        """Whether more has to be known than whether there is a document."""
+        """Whether they depend on more than whether there is a document."""
         return any(tags and tags != {ANY} for tags in (self.match, self.none_match))
 
     def check(self, entity_tag: str) -> None:
-        """Refuses an answer whose tag is not wanted; as NotModified, where it is the one that the
+        """Refuses an answer whose tag is not wanted; raises NotModified if it is the one that the
         client has."""
         if self.match is not None and not self.match & {entity_tag, ANY}:
             raise failed("If-Match names another state")
@@ -93,9 +95,9 @@ class Conditions:
             raise NotModified(entity_tag)
 
     def check_state(self, state: str | None) -> None:
-        """Refuses a change of a document in that state; None is that of no document.
+        """Refuses a change of a document in that state; None is the state without a document.
 
-        A tag of any form of the state is one of it.
+        A tag of any form of the state matches it.
         """
         if self.match is not None and not _has(self.match, state, is_weak=False):
             raise failed("If-Match names another state of the document")
@@ -112,7 +114,7 @@ class NotModified(Exception):
 
 
 def failed(why: str) -> HttpRefusal:
-    """The refusal of a request whose condition does not hold."""
+    """The refusal of a request whose condition fails."""
     return HttpRefusal(412, "xqs:CONDITION", f"{why}; nothing has changed")
 
 
@@ -125,7 +127,7 @@ def _has(tags: frozenset[str], state: str | None, is_weak: bool) -> bool:
 
 
 def conditions_of(headers: Headers) -> Conditions:
-    """The conditions of a request; HttpRefusal where a header of them is none."""
+    """The conditions of a request. Raises HttpRefusal if one of their headers is invalid."""
     return Conditions(_tags(headers, "If-Match"), _tags(headers, "If-None-Match"))
 
 
@@ -147,5 +149,5 @@ def _tags(headers: Headers, name: str) -> frozenset[str] | None:
 
 
 def etag(entity_tag: str) -> Mapping[str, str]:
-    """The headers that tell a tag, and by what the answer could be another one."""
+    """The headers with a tag, and with the request headers that the answer depends on."""
     return {"ETag": entity_tag, "Vary": "Accept", "Cache-Control": "private, no-cache"}

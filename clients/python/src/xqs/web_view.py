@@ -1,7 +1,7 @@
 """The items of an answer as JSON: for programs, and with all that the page shows of them.
 
-The page reads no reply. It gets each item with its type, its text, its XML in lines and its tree,
-and puts those into the page as they are.
+The page doesn't parse replies. It gets each item with its type, its text, its XML in lines and its
+tree, and shows these as they are.
 """
 
 import json
@@ -17,11 +17,11 @@ from xqs.xml_out import atom_text, speller
 json_text = json.JSONEncoder(ensure_ascii=False).encode
 """A value as JSON."""
 LONGEST_TABLE = 1_000_000
-"""Replies of at most so many characters are looked at for a table."""
+"""A longer reply, in characters, is not made into a table."""
 
 
 class _ItemWriter:
-    """Writes the items of an answer, one after the other."""
+    """Writes the items of an answer, one after another."""
 
     def __init__(self, names: str, is_page: bool) -> None:
         self._is_page = is_page
@@ -33,7 +33,7 @@ class _ItemWriter:
         self._heads: list[_Head] = []
 
     def event(self, event: Event) -> bool:
-        """Takes the next event; whether the item ends with it."""
+        """Takes the next event. Returns whether the item ends with it."""
         self._type = self._type or type_of(event)
         self._lines.event(event)
         match event:
@@ -55,7 +55,7 @@ class _ItemWriter:
         return not self._heads
 
     def _begin(self) -> None:
-        """A child begins in the node that is open."""
+        """A child of the open node begins."""
         if self._heads:
             self._tree.append("," if self._heads[-1].children else "],[")
             self._heads[-1].children += 1
@@ -66,7 +66,7 @@ class _ItemWriter:
         self._tree.append(f"[{json_text(kind)},{json_text(name)},{json_text(value)}]")
 
     def write(self, write: Callable[[str], object]) -> None:
-        """Writes the item, once it has ended; the next one may follow."""
+        """Writes the item, once it has ended; another one may follow."""
         lines = self._lines.take_lines()
         text = json_text("".join(self._texts))
         write(f'{{"type":"{self._type}","text":{text},"xml":')
@@ -81,7 +81,7 @@ class _ItemWriter:
 
 
 class _Head:
-    """How much of an open node has come."""
+    """The parts of an open node that have come."""
 
     __slots__ = ("attributes", "children")
 
@@ -101,9 +101,9 @@ def _written_items(text: str, names: str, is_page: bool) -> str:
 
 
 def as_json(text: str, names: str) -> str:
-    """Printed items as an array of JSON: of each item its `type`, its `text` and its `xml`.
+    """Printed items as an array of JSON: the `type`, `text` and `xml` of each item.
 
-    Misspelt where the text is no printed value.
+    Raises Misspelt if the text is no printed value.
     """
     return f"[{_written_items(text, names, False)}]"
 
@@ -111,9 +111,9 @@ def as_json(text: str, names: str) -> str:
 def as_page_json(text: str, names: str) -> str:
     """Printed items as an object of JSON for the page.
 
-    `constructors` is the reply as it came. Of each of the `items` its `xml` is a list of depths and
-    texts: the texts, joined, are the exact XML; each of a depth from 0 is a line of the indented
-    one, from which those of depth -1 are left out. Its `tree` is `[kind, name, value]`, or `[kind,
+    `constructors` is the reply itself. Each of the `items` has `xml`, a list of depths and texts:
+    joined, the texts are the exact XML; each text with a depth from 0 is a line of the indented
+    form, which leaves out those with depth -1. Its `tree` is `[kind, name, value]`, or `[kind,
     name, [name, value, ..], [tree, ..]]` for a document or an element, and null for an atomic
     value. `table` is null, or the items in rows.
     """

@@ -1,19 +1,19 @@
-"""Requests sent ahead of their replies, up to so many bytes."""
+"""Requests sent ahead of their replies, up to a number of bytes."""
 
 from collections import deque
 from collections.abc import Callable
 from concurrent.futures import Future
 
 WINDOW_BYTES = 8_000_000
-"""So many bytes of requests are under way, more or less; the server keeps one of them in memory,
-the others wait in the pipe and here."""
+"""About how many bytes of requests are sent ahead; the server keeps one request in memory, the
+others wait in the pipe and here."""
 
 Done = Callable[[Future[str]], None]
-"""What is called with the future of a request once it is settled."""
+"""A function that is called with the future of a request once it is done."""
 
 
 class Window:
-    """Requests under way, oldest first; whoever sends waits until there is room."""
+    """Requests under way, oldest first; a sender waits until there is room."""
 
     def __init__(self, limit: int = WINDOW_BYTES) -> None:
         self._limit = limit
@@ -21,14 +21,14 @@ class Window:
         self._waiting: deque[tuple[Future[str], int, Done]] = deque()
 
     def add(self, future: Future[str], size: int, done: Done) -> None:
-        """Holds a request of so many bytes; calls `done` of older ones until it has room."""
+        """Adds a request of this many bytes; calls `done` of older ones until there is room."""
         self._waiting.append((future, size, done))
         self._held += size
         while self._held > self._limit and len(self._waiting) > 1:
             self._settle_oldest()
 
     def poll(self) -> None:
-        """Calls `done` of the oldest requests that have their replies already."""
+        """Calls `done` of the oldest requests that have their replies."""
         while self._waiting and self._waiting[0][0].done():
             self._settle_oldest()
 

@@ -1,7 +1,7 @@
-"""The bytes of XML in any encoding, given as UTF-8 piece by piece.
+"""The bytes of XML in any encoding, converted to UTF-8 piece by piece.
 
-The encoding is that of a byte order mark, else the charset that the transport names (RFC 7303),
-else the one that the first bytes or the declaration tell, else UTF-8. Python's codecs decode.
+The encoding is that of a byte order mark, else the charset of the transport (RFC 7303), else the
+one that the first bytes or the declaration show, else UTF-8. Python's codecs decode.
 """
 
 import codecs
@@ -11,8 +11,8 @@ from xml.parsers import expat
 from xqs.errors import XqError
 
 MARK = "\uffff"
-"""Stands for bytes that are no text of their encoding. No XML has it, so that the parser refuses
-it, at its place."""
+"""Replaces bytes that are invalid in their encoding. XML doesn't have this character, so the parser
+refuses it at its place."""
 _MARKS = {
     b"\xff\xfe\0\0": "utf-32-le", b"\0\0\xfe\xff": "utf-32-be", codecs.BOM_UTF8: "utf-8",
     codecs.BOM_UTF16_LE: "utf-16-le", codecs.BOM_UTF16_BE: "utf-16-be",
@@ -22,9 +22,9 @@ _BEGINNINGS = {
     b"\0\0\0<": "utf-32-be", b"<\0\0\0": "utf-32-le", b"\0<": "utf-16-be", b"<\0": "utf-16-le",
     b"\x4c\x6f\xa7\x94": "cp037",
 }
-"""How a text without a mark begins in an encoding that has no ASCII; the last one is EBCDIC."""
+"""How a text without a mark begins in an encoding without ASCII; the last one is EBCDIC."""
 _ASCII = "iso8859-1"
-"""By it a declaration is read whose encoding has ASCII."""
+"""Reads a declaration in an encoding with ASCII."""
 _KNOWN = re.compile(
     r"ascii|utf-(?:8|16|16-le|16-be|32|32-le|32-be)|cp\d+|iso8859-\d+|koi8-[rtu]|mac-\w+|big5\w*|"
     r"gb2312|gbk|gb18030|hz|euc_\w+|shift_jis\w*|johab|iso2022_\w+|tis-620|hp-roman8|kz1048|ptcp154"
@@ -38,16 +38,16 @@ _OTHER_NAMES = {
     "gb_2312-80": "gb2312",
 }
 _READ_AS = {"big5": "cp950", "tis-620": "cp874"}
-"""Codecs in whose place stand those by which browsers and glibc read the name: Python's own have an
-older table of Big5's signs, and controls where Thai texts have quotation marks."""
+"""Codecs to use in place of others, as browsers and glibc do: Python's own have an older table of
+Big5's signs, and control characters where Thai texts have quotation marks."""
 _HEAD = 1 << 16
-"""A declaration has so many bytes at most."""
+"""The most bytes of a declaration."""
 _LEAST = len("<?xml ".encode("utf-32-be"))
-"""So many bytes tell whether there is a declaration, in each encoding."""
+"""How many bytes show whether there is a declaration, in any encoding."""
 
 
 class EncodingFault(XqError, ValueError):
-    """An encoding that is not known, or that the bytes are not in; with its place, from 1."""
+    """An encoding that is unknown, or in which the bytes are invalid; with the place, from 1."""
 
     def __init__(self, why: str, line: int = 1, column: int = 1) -> None:
         super().__init__(why)
@@ -58,7 +58,7 @@ class Utf8:
     """Gives bytes of XML as UTF-8, without a byte order mark."""
 
     def __init__(self, charset: str | None = None) -> None:
-        """`charset` is that of the transport, as of an HTTP header, where there is one."""
+        """`charset` is that of the transport, as of an HTTP header, if there is one."""
         self._charset = charset
         self._head = b""
         self._decoder: codecs.IncrementalDecoder | None = None
@@ -69,10 +69,10 @@ class Utf8:
         self._has_mark = False
 
     def feed(self, data: bytes, final: bool) -> bytes:
-        """Takes the next bytes, and gives what they add; EncodingFault.
+        """Takes the next bytes, and returns what they add. Raises EncodingFault.
 
-        It gives nothing while the encoding is not known yet. `MARK` stands for bytes that are no
-        text of an encoding other than UTF-8; those of UTF-8 stay as they are.
+        It returns nothing until the encoding is known. `MARK` replaces bytes that are invalid in an
+        encoding other than UTF-8; bytes that should be UTF-8 are unchanged.
         """
         if not self.encoding:
             self._head += data
@@ -91,8 +91,8 @@ class Utf8:
         return self._last
 
     def fault(self, index: int) -> str:
-        """What is wrong with the bytes that were given from that place on, in the last piece; empty
-        where they are text."""
+        """What is wrong with the bytes of the last piece that were returned from that place on;
+        empty if they are valid."""
         at = index - self._before
         if at < 0:
             return f"these bytes are no {self.encoding}" if self._has_mark else ""
@@ -107,8 +107,8 @@ class Utf8:
 
 
 def encoding_of(head: bytes, charset: str | None = None) -> tuple[str, int]:
-    """Python's name of the encoding of XML that begins so, and the length of its byte order mark;
-    EncodingFault where it is not known, or the declaration can't be true."""
+    """Python's name of the encoding of XML with this beginning, and the length of its byte order
+    mark. Raises EncodingFault if it is unknown, or if the declaration can't be true."""
     for mark, encoding in _MARKS.items():
         if head.startswith(mark):
             return encoding, len(mark)
@@ -116,13 +116,13 @@ def encoding_of(head: bytes, charset: str | None = None) -> tuple[str, int]:
     if charset is not None:
         found = codec_of(charset.strip(" \t\"'"))
         if not found:
-            raise EncodingFault(f"the charset {charset!r} of the transport is not known")
+            raise EncodingFault(f"the charset {charset!r} of the transport is unknown")
         return _with_order(found, begins), 0
     return _declared(head, begins), 0
 
 
 def codec_of(name: str) -> str:
-    """Python's name of an encoding; empty where it is not known."""
+    """Python's name of an encoding; empty if it is unknown."""
     if not re.fullmatch(r"[A-Za-z][A-Za-z0-9._:-]*", name):
         return ""
     try:
@@ -133,7 +133,7 @@ def codec_of(name: str) -> str:
 
 
 def _declared(head: bytes, begins: str) -> str:
-    """The encoding by the declaration, of a text that begins as those in `begins` do."""
+    """The encoding in the declaration of a text that begins as those in `begins` do."""
     name = _declared_name(head, begins)
     if not name and len(head) > _HEAD and _has_declaration(head, begins):
         raise EncodingFault(f"the declaration has more than {_HEAD} bytes")
@@ -144,20 +144,20 @@ def _declared(head: bytes, begins: str) -> str:
         raise _at_name(f"the encoding {name} is not known", head, begins, name)
     found = _with_order(found, begins)
     if "<?xml".encode(found) != "<?xml".encode(begins):
-        why = f"the declaration says {name}, and the bytes are not so"
+        why = f"the declaration says {name}, but the bytes contradict it"
         raise _at_name(why, head, begins, name)
     return found
 
 
 def _with_order(found: str, begins: str) -> str:
-    """UTF-16 and UTF-32 with their order of bytes, where the beginning tells it."""
+    """UTF-16 and UTF-32 with their byte order, if the beginning shows it."""
     if found not in ("utf-16", "utf-32"):
         return found
     return begins if begins.startswith(found) else f"{found}-be"
 
 
 def _declared_name(head: bytes, begins: str) -> str:
-    """The name of the encoding in the declaration; empty where there is none."""
+    """The name of the encoding in the declaration; empty if there is none."""
     names: list[str | None] = []
     parser = expat.ParserCreate("utf-8")
     parser.XmlDeclHandler = lambda _, encoding, __: names.append(encoding)
@@ -180,7 +180,7 @@ def _at_name(why: str, head: bytes, begins: str, name: str) -> EncodingFault:
 
 
 def _is_enough(head: bytes) -> bool:
-    """Whether the encoding can be told from the first bytes."""
+    """Whether the first bytes are enough to tell the encoding."""
     if len(head) < _LEAST:
         return False
     begins = _beginning(head)
@@ -193,7 +193,7 @@ def _has_declaration(head: bytes, begins: str) -> bool:
 
 
 def _beginning(head: bytes) -> str:
-    """The encoding in which a text without a mark begins, as far as its first bytes tell."""
+    """The encoding at the beginning of a text without a mark, as far as its first bytes show it."""
     return next((it for start, it in _BEGINNINGS.items() if head.startswith(start)), _ASCII)
 
 

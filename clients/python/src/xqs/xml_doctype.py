@@ -1,7 +1,7 @@
-"""What a document type does to the text after it: entities, and the default values of attributes.
+"""What a document type does to the text after it: entities, and default values of attributes.
 
-The parser leaves out, in silence, an entity in a value of an attribute where it is not known and
-definitions are not read; here it is looked for in the source of each such value.
+If definitions are not read, the parser silently leaves out an unknown entity in the value of an
+attribute. So this module looks for entities in the source of each such value.
 """
 
 import re
@@ -18,7 +18,7 @@ _PREDEFINED = ("lt", "gt", "amp", "quot", "apos")
 
 
 class EntityFault(XqError, ValueError):
-    """An entity that is declared where entities are not asked for."""
+    """A declared entity, if entities may not be expanded."""
 
 
 class Doctype:
@@ -33,7 +33,7 @@ class Doctype:
         entities: bool,
         refuse: Callable[[str | Exception], NoReturn],
     ) -> None:
-        """Entities that the text declares are refused but where `entities` are asked for."""
+        """Refuses entities that the text declares, unless `entities` may be expanded."""
         self._parser = parser
         self._refuse = refuse
         self._entities: dict[str, list[str]] = dict.fromkeys(_PREDEFINED, [])
@@ -47,18 +47,18 @@ class Doctype:
         parser.SetParamEntityParsing(expat.XML_PARAM_ENTITY_PARSING_ALWAYS)
 
     def check_tag(self) -> None:
-        """Refuses the tag that begins here where an entity in its values is not known."""
+        """Refuses the tag that begins here if an entity in its values is unknown."""
         self._check_source(_TAG)
 
     def _check_source(self, form: re.Pattern[bytes]) -> None:
         source = self._parser.GetInputContext() or b""
-        # A tag that stands in an entity's own text has the reference to it as its source.
+        # For a tag in an entity's own text the source is the reference to the entity.
         found = _REFERENCE.match(source) or form.match(source)
         for name in _REFERENCE.findall(found[0]) if found else ():
             self._check_entity(name.decode(), set())
 
     def _check_entity(self, name: str, seen: set[str]) -> None:
-        """Refuses an entity that is not known, or has one in its text that is not."""
+        """Refuses an entity that is unknown, or whose text has an unknown one."""
         if name not in self._entities:
             self._skipped_entity(name, False)
         seen.add(name)
@@ -78,7 +78,7 @@ class Doctype:
 
     def _declared_entity(self, name: str, is_parameter: bool, *_: object) -> None:
         if not is_parameter:
-            why = f"the entity {name} is declared here; entities have to be asked for"
+            why = f"the entity {name} is declared here; only --entities expands it"
             self._refuse(EntityFault(why))
 
     def _noted_entity(self, name: str, is_parameter: bool, text: str | None, *_: object) -> None:
@@ -87,12 +87,12 @@ class Doctype:
             self._entities.setdefault(name, [it.decode() for it in references])
 
     def _skipped_entity(self, name: str, _: bool) -> None:
-        self._refuse(f"the entity {name} is declared outside of this text, which is not read")
+        self._refuse(f"the entity {name} is declared outside this text, which is not read")
 
     def _external_entity(
         self, context: str | None, _: str | None, place: str | None, __: str | None
     ) -> int:
         if context is None:
-            # A part of the document type, as the one that a public name stands for: it isn't read.
+            # An external part of the document type, as one with a public name: it isn't read.
             return 1
-        self._refuse(f"the entity stands outside of this text, at {place}, which is not read")
+        self._refuse(f"the entity is outside this text, at {place}, which is not read")

@@ -1,7 +1,8 @@
-"""XML text, as it comes, turned into the constructor text of a document. Nothing here reads files.
+"""XML text, piece by piece, turned into the constructor text of a document. This module reads no
+files.
 
-What stands outside of the text, external entities and definitions, is never read. The document
-type itself is dropped, and the default values of attributes in its internal part are kept.
+It never reads external entities or definitions. It drops the document type itself, and keeps the
+default values of attributes from its internal subset.
 """
 
 from collections.abc import Callable, Iterator
@@ -19,20 +20,21 @@ from xqs.xml_names import NameFault, Names, incoming, is_declaration
 SPACE = " \t\r\n"
 """White space, as XML has it."""
 _TEXT_HELD = 1 << 20
-"""So many characters of a text are held back before they are passed on."""
+"""How many characters of a text are collected before they are passed on."""
 _SPACE_ATTRIBUTE = "xml:space"
 _SLICE = 1 << 16
-"""So many bytes of a text with a document type are parsed at once, at least."""
+"""The least number of bytes that are parsed at once in a text with a document type."""
 _INVALID_TOKEN = expat.errors.codes[expat.errors.XML_ERROR_INVALID_TOKEN]
 FAULTS = (NameFault, TooLarge)
-"""What the names and the nodes of a text are refused by; the place is told where the text is read,
-since the parser has gone on when an error has left it."""
+"""The errors by which names and nodes are refused. The place is added where the text is read, since
+the parser has gone on when an error leaves it."""
 
 
 @dataclass(frozen=True)
 class XmlChoices:
-    """How XML is read: names with a colon; texts of white space dropped, but where
-    `xml:space="preserve"` holds; entities that the text declares expanded."""
+    """How XML is read: what happens to names with a colon; whether texts of white space are
+    dropped, unless `xml:space="preserve"` holds; whether entities that the text declares are
+    expanded."""
 
     names: Names = Names.REFUSE
     strip: bool = False
@@ -40,18 +42,18 @@ class XmlChoices:
 
 
 class XmlFault(PlacedFault):
-    """XML that is not well-formed, or that is refused; with its place, counted from 1."""
+    """XML that is not well-formed, or is refused; with its place, counted from 1."""
 
 
 class ChoiceFault(XmlFault):
-    """XML that is refused by a choice, and that another one may take."""
+    """XML that is refused by one choice, and that another may accept."""
 
 
 class XmlReader:
     """Reads one document.
 
-    `feed` takes its bytes in any pieces and gives the parts that are to be stored first; `close`
-    ends it, and then `whole` is the text that makes the document. All raise XmlFault.
+    `feed` takes its bytes in pieces of any size, and returns the parts to store first. `close` ends
+    it; then `whole` is the text that makes the document. All raise XmlFault.
     """
 
     def __init__(
@@ -61,8 +63,8 @@ class XmlReader:
         choices: XmlChoices = XmlChoices(),  # noqa: B008 (it is frozen)
         charset: str | None = None,
     ) -> None:
-        """`source` is how messages call the text. `charset` is that of its transport, as of an
-        HTTP header: it goes before the declaration, and a byte order mark before both."""
+        """`source` is the text's name in messages. `charset` is that of its transport, as of an
+        HTTP header: it takes precedence over the declaration, and a byte order mark over both."""
         self._source = source
         self._document = DocumentText(temporary)
         self._strip = choices.strip
@@ -78,19 +80,19 @@ class XmlReader:
         self.whole = ""
 
     def feed(self, data: bytes) -> list[Part]:
-        """Takes the next bytes; the parts that are to be stored now, in this order."""
+        """Takes the next bytes. Returns the parts to store now, in this order."""
         self._parse(data, False)
         return self._document.take_parts()
 
     def close(self) -> list[Part]:
-        """Takes the end of the text; the last parts."""
+        """Ends the text. Returns the last parts."""
         self._parse(b"", True)
         self.whole = self._document.whole()
         return self._document.take_parts()
 
     @property
     def nodes(self) -> int:
-        """How many nodes the document has so far."""
+        """The number of nodes so far."""
         return self._document.nodes
 
     def _new_parser(self) -> expat.XMLParserType:
@@ -120,8 +122,8 @@ class XmlReader:
             raise XmlFault(self._source, error.lineno, error.offset + 1, why) from None
 
     def _slices(self, data: bytes) -> Iterator[bytes]:
-        """The bytes in pieces that are short, since to look at the source of a tag copies a piece,
-        and longer ones where a token goes on and on."""
+        """The bytes in short pieces, since each look at the source of a tag copies a piece; in
+        longer ones if a token goes on and on."""
         at = 0
         while at < len(data):
             begun = self._parser.CurrentByteIndex
@@ -153,7 +155,7 @@ class XmlReader:
             attribute(name, value)
 
     def _stored(self, pairs: list[str]) -> list[str]:
-        """Names and values of attributes as they are stored."""
+        """Names and values of attributes in the form that is stored."""
         if self._doctype.has_begun:
             self._doctype.check_tag()
         if self._is_local:
@@ -162,7 +164,7 @@ class XmlReader:
         return pairs
 
     def _local(self, pairs: list[str]) -> list[str]:
-        """As `_stored` where prefixes and declarations are dropped."""
+        """Like `_stored`, but drops prefixes and declarations."""
         values: dict[str, str] = {}
         for name, value in zip(pairs[::2], pairs[1::2], strict=True):
             if is_declaration(name):
@@ -222,7 +224,7 @@ class XmlReader:
 
 
 class _Cache(dict[str, str]):
-    """The stored name of each name that was met."""
+    """The stored name of each name that has come."""
 
     def __init__(self, function: Callable[[str], str]) -> None:
         super().__init__()

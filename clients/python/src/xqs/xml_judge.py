@@ -1,5 +1,5 @@
-"""Whether XML can be stored, before anything of it is: all that `xml_in` refuses, without the text
-that it makes."""
+"""Checks whether XML can be stored, before any part of it is: refuses all that `xml_in` refuses,
+without making the text."""
 
 from collections.abc import Callable, Iterable
 
@@ -14,7 +14,7 @@ def judge_xml(
     choices: XmlChoices = XmlChoices(),  # noqa: B008 (it is frozen)
     charset: str | None = None,
 ) -> int:
-    """How many nodes the document has; XmlFault as for XmlReader."""
+    """The number of the document's nodes. Raises XmlFault as XmlReader does."""
     judge = _Judge(source, choices, charset)
     for chunk in chunks:
         judge.feed(chunk)
@@ -23,7 +23,7 @@ def judge_xml(
 
 
 class _Judge(XmlReader):
-    """Reads as XmlReader does, and counts alone."""
+    """Reads as XmlReader does, but only counts."""
 
     def __init__(self, source: str, choices: XmlChoices, charset: str | None) -> None:
         super().__init__(source, Temporary(), choices, charset)
@@ -31,7 +31,7 @@ class _Judge(XmlReader):
 
     @property
     def nodes(self) -> int:
-        """How many nodes the document has so far."""
+        """The number of nodes so far."""
         return self._count.nodes
 
     def _start(self, name: str, pairs: list[str]) -> None:

@@ -1,4 +1,4 @@
-"""Names with a colon, which the server doesn't have, on the way in and on the way out."""
+"""Names with a colon, which the server doesn't have, on the way in and out."""
 
 from collections.abc import Callable
 from enum import StrEnum
@@ -7,26 +7,26 @@ from xqs.errors import XqError
 
 NAMESPACE = "xmlns"
 FLAT_COLON = "__"
-"""What stands for the colon in flat names: `p:a` is `p__a`, and `xmlns` is `xmlns__`."""
+"""What replaces the colon in flat names: `p:a` is `p__a`, and `xmlns` is `xmlns__`."""
 
 
 class Names(StrEnum):
-    """What becomes of names with a colon, and of declarations of namespaces, on the way in."""
+    """What happens to names with a colon, and to declarations of namespaces, on the way in."""
 
     REFUSE = "refuse"
     """The text is refused."""
     FLAT = "flat"
-    """`p:a` is stored as `p__a`, and `xmlns` as `xmlns__`; to be turned back on the way out."""
+    """`p:a` is stored as `p__a`, and `xmlns` as `xmlns__`; this can be reversed on the way out."""
     LOCAL = "local"
-    """`p:a` is stored as `a`, and declarations are dropped; not to be turned back."""
+    """`p:a` is stored as `a`, and declarations are dropped; this can't be reversed."""
 
 
 class NoChoice(XqError, ValueError):
-    """A word that is no choice of names."""
+    """A word that is no choice for names."""
 
 
 class NameFault(XqError, ValueError):
-    """A name that can't be stored under the choice that was made."""
+    """A name that can't be stored with this choice."""
 
 
 def is_declaration(name: str) -> bool:
@@ -35,14 +35,14 @@ def is_declaration(name: str) -> bool:
 
 
 def incoming(choice: Names) -> Callable[[str], str]:
-    """The function from a name of XML to the name that is stored; it raises NameFault."""
+    """The function from a name in XML to the stored name; it raises NameFault."""
     return {Names.REFUSE: _refused, Names.FLAT: _flat, Names.LOCAL: _local}[choice]
 
 
 def _refused(name: str) -> str:
     if ":" in name or name == NAMESPACE:
         raise NameFault(
-            f"the name {name} wants namespaces, which the server doesn't have; "
+            f"the name {name} needs namespaces, which the server doesn't have; "
             "the choices 'flat' and 'local' take it"
         )
     return name
@@ -57,7 +57,7 @@ def _flat(name: str) -> str:
         return name
     prefix, local = _halves(name)
     if prefix.endswith("_"):
-        raise NameFault(f"the prefix of {name} ends in _, so that flat names can't keep it apart")
+        raise NameFault(f"the prefix of {name} ends in _, so its flat names would be ambiguous")
     return prefix + FLAT_COLON + local
 
 
@@ -73,7 +73,7 @@ def _halves(name: str) -> tuple[str, str]:
 
 
 def outgoing(name: str) -> str:
-    """The name of XML that a flat name stands for; a name that is not flat stays as it is."""
+    """The name in XML of a flat name; any other name is unchanged."""
     prefix, mark, local = name.partition(FLAT_COLON)
     if not mark or not prefix:
         return name

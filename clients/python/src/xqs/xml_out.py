@@ -16,12 +16,12 @@ KEEP, FLAT = "keep", "flat"
 
 
 class NotXml(XqError, ValueError):
-    """A document that no XML text can give: not one element at its top, text there, or a carriage
-    return in a comment or a processing instruction."""
+    """A document that no XML text can give: it has text or more or less than one element at its
+    top, or a carriage return in a comment or a processing instruction."""
 
 
 def is_flat(names: str) -> bool:
-    """Whether names with a prefix are wanted in place of flat ones; NoChoice for a word that is
+    """Whether to turn flat names into names with a prefix. Raises NoChoice for a word that is
     neither `keep` nor `flat`."""
     if names not in (KEEP, FLAT):
         raise NoChoice(f"names are kept or flat, not {names!r}")
@@ -80,7 +80,7 @@ class XmlWriter:
 
 
 def speller(names: str) -> Callable[[str], str]:
-    """What spells a stored name in XML; `names` as for XmlWriter."""
+    """The function from a stored name to the name in XML; `names` as in XmlWriter."""
     return outgoing if is_flat(names) else _same
 
 
@@ -111,9 +111,9 @@ def node_events(item: Item) -> Iterator[Event]:
 
 def xml(item: Item, names: str = KEEP) -> str:
     """An item as XML: a node as its markup, an attribute as `name="value"`, an atomic value as
-    text. `names` as for XmlWriter.
+    text. `names` as in XmlWriter.
 
-    A document may hold what no file of XML can, as two elements; then its text is none either.
+    A document may hold what no file of XML can, as two elements; then this text is no such file.
     """
     text = io.StringIO()
     writer = XmlWriter(text.write, names)
@@ -127,7 +127,7 @@ def write_document(
 ) -> None:
     """Writes a whole document as a text of XML, with a declaration and a line feed at its end.
 
-    NotXml where the document can't be one; some of it may have been written then.
+    Raises NotXml if the document can't be one; part of it may have been written then.
     """
     writer = XmlWriter(write, names)
     write(DECLARATION)

@@ -1,4 +1,4 @@
-"""Where a log is: the addresses of the brokers that keep it, and its name."""
+"""Where a log is: the addresses of its brokers, and its name."""
 
 import ipaddress
 import os
@@ -11,17 +11,17 @@ _SCHEMES = ("amqp", "amqps")
 
 @dataclass(frozen=True)
 class LogAddress:
-    """The log's name, and of each broker the URL to connect to, which may hold a password."""
+    """The log's name, and the URL of each broker, which may hold a password."""
 
     name: str
     brokers: tuple[str, ...]
 
 
 def log_address(text: str) -> LogAddress:
-    """The log of `amqp://[USER:PASSWORD@]HOST[:PORT]/NAME[?vhost=V],..`, one for each broker.
+    """The log of `amqp://[USER:PASSWORD@]HOST[:PORT]/NAME[?vhost=V],..`, with each broker.
 
-    A broker behind the first may be named by HOST[:PORT] alone, and then has all else of the first.
-    ValueError where the text is none.
+    A broker after the first may be given by HOST[:PORT] alone; the rest is then that of the first.
+    Raises ValueError for an invalid text.
     """
     first, *others = [it.strip() for it in text.split(",")]
     begin = _split(first)
@@ -36,7 +36,7 @@ def log_address(text: str) -> LogAddress:
 
 
 def given_log(text: str | None) -> LogAddress:
-    """The log that an option names, or the environment, where a password stands better."""
+    """The log in an option, or in the environment, which is a better place for a password."""
     where = text or os.environ.get(VARIABLE)
     if not where:
         raise ValueError(f"no log is named: give --log, or set {VARIABLE}")
@@ -44,15 +44,15 @@ def given_log(text: str | None) -> LogAddress:
 
 
 def check_ways(address: LogAddress, is_plain_taken: bool) -> None:
-    """ValueError where a broker of another machine is to be asked without TLS: passwords and
-    documents would be read on the way."""
+    """Raises ValueError if a broker on another machine would be used without TLS: passwords and
+    documents could be read on the way."""
     if is_plain_taken:
         return
     for broker in address.brokers:
         parts = urllib.parse.urlsplit(broker)
         if parts.scheme != "amqps" and not _is_here(parts.hostname or ""):
-            raise ValueError(f"{shown(broker)} is another machine: name it by amqps://, or give "
-                             "--plain where the network is yours alone")
+            raise ValueError(f"{shown(broker)} is another machine: use amqps://, or give --plain "
+                             "if the network is yours alone")
 
 
 def _is_here(host: str) -> bool:
@@ -74,7 +74,7 @@ def _split(text: str) -> urllib.parse.SplitResult:
     if parts.scheme not in _SCHEMES or not parts.hostname:
         raise ValueError(f"not the address of a log: {_censored(text)} (amqp://HOST/NAME)")
     try:
-        parts.port  # noqa: B018 (it is judged when it is asked for)
+        parts.port  # noqa: B018 (reading it checks it)
     except ValueError as error:
         raise ValueError(f"not the address of a log: {_censored(text)} ({error})") from error
     return parts
@@ -87,7 +87,7 @@ def _censored(text: str) -> str:
 def _name(parts: urllib.parse.SplitResult) -> str:
     name = urllib.parse.unquote(parts.path.removeprefix("/"))
     if not 1 <= len(name.encode()) <= 200 or "/" in name:
-        raise ValueError(f"the address of a log wants its name: amqp://{parts.hostname}/NAME")
+        raise ValueError(f"the address of a log needs its name: amqp://{parts.hostname}/NAME")
     return name
 
 
@@ -99,7 +99,7 @@ def _with_host(first: urllib.parse.SplitResult, host: str) -> urllib.parse.Split
 def _broker(parts: urllib.parse.SplitResult) -> str:
     query = urllib.parse.parse_qs(parts.query)
     vhost = query.pop("vhost", ["/"])[0]
-    # A silent broker is given up after three times its `timeout`, which is in seconds.
+    # A silent broker is given up after three times its `timeout`, in seconds.
     query.setdefault("heartbeat", ["4"])
     query.setdefault("timeout", ["3"])
     path = "/" if vhost == "/" else "/" + urllib.parse.quote(vhost, safe="")

@@ -1,4 +1,4 @@
-"""Whether nodes agree: every so many places each reports its sum in the log, with one vote."""
+"""Checks that nodes agree: at regular places each one reports its sum in the log, with one vote."""
 
 import json
 from collections import Counter
@@ -9,9 +9,9 @@ from xqs.cluster.batches import EntryKind
 from xqs.errors import XqError
 
 EVERY = 1000
-"""So many places lie between two reports."""
+"""The number of places between two reports."""
 KEPT = 32
-"""So many of the last reports are kept to be compared with."""
+"""How many of the last reports are kept for comparison."""
 
 
 class Differs(XqError):
@@ -19,12 +19,13 @@ class Differs(XqError):
 
 
 class Tied(XqError):
-    """This server holds other documents than as many nodes as hold the same: nobody knows which."""
+    """This server holds other documents than as many nodes as agree with it: nobody knows which
+    ones are right."""
 
 
 @dataclass(frozen=True, slots=True)
 class Report:
-    """What a node says of a place: the sum over all replies up to it, its program, and the places
+    """A node's report about a place: the sum over all replies up to it, its program, and the places
     that it has skipped."""
 
     node: str
@@ -41,7 +42,7 @@ class Report:
 
     @staticmethod
     def of(entry: bytes) -> "Report | None":
-        """The report of an entry; None where it is none."""
+        """The report in an entry; None if there is none."""
         if entry[:1] != EntryKind.REPORT:
             return None
         try:
@@ -56,15 +57,15 @@ class Report:
 
 
 class Agreement:
-    """What this server and all nodes reported.
+    """The reports of this server and all nodes.
 
-    Sums alone count. Where more nodes have another sum than this server's, it is to stop at once;
-    where as many have it, it halts at its next report, when all had the time to speak, and goes on
-    once others say that it is right; `tied_at` is that place.
+    Only sums count. If more nodes have another sum than this server's, it must stop at once. If as
+    many have it, the server halts at its next report, when all have had the time to report, and
+    goes on when others say that it is right; `tied_at` is that place.
     """
 
     def __init__(self, node: str, program: str, sums: Mapping[int, str] | None = None) -> None:
-        """`sums` has those of this server at earlier places."""
+        """`sums` has this server's sums at earlier places."""
         self._node, self._program = node, program
         self._own = {place: Report(node, place, total, program)
                      for place, total in (sums or {}).items()}
@@ -79,7 +80,7 @@ class Agreement:
         return {place: report.total for place, report in self._own.items()}
 
     def reached(self, place: int, total: str, skips: tuple[int, ...] = ()) -> Report | None:
-        """This server's report, where one is due at the place. Raises Differs, Tied."""
+        """This server's report, if one is due at the place. Raises Differs, Tied."""
         if place % EVERY:
             return None
         report = Report(self._node, place, total, self._program, skips)
@@ -92,19 +93,20 @@ class Agreement:
         return report
 
     def own(self, place: int) -> Report | None:
-        """This server's report of a place, while it is kept."""
+        """This server's report of a place, as long as it is kept."""
         return self._own.get(place)
 
     def is_disputed(self, place: int) -> bool:
-        """Whether another sum than this server's was heard of the place."""
+        """Whether a sum other than this server's was reported for the place."""
         return place in self._own and bool(self._against(place))
 
     def is_tied(self, place: int) -> bool:
-        """Whether as many nodes, or more, have another sum of the place as have this server's."""
+        """Whether at least as many nodes have another sum of the place as have this server's."""
         return self.is_disputed(place) and self._most(place) >= self._alike(place)
 
     def hear(self, report: Report) -> str:
-        """Takes a report; what is to be said of it, if anything. Raises Differs, Tied."""
+        """Takes a report. Returns a message for the operator, if there is one. Raises Differs,
+        Tied."""
         heard = self._heard.setdefault(report.place, {})
         is_new = heard.get(report.node) != report
         heard[report.node] = report
@@ -121,19 +123,19 @@ class Agreement:
         return self._said(report) if is_new else ""
 
     def _warning(self, other: Report) -> str:
-        """That a node runs another program, which is said once."""
+        """A message that a node runs another program, given once."""
         if other.program == self._program or (other.node, other.program) in self._told:
             return ""
         self._told.add((other.node, other.program))
         return (f"node {other.node} runs the program {other.program}, and this one "
-                f"{self._program}: their sums are alike so far")
+                f"{self._program}: their sums are equal so far")
 
     def _said(self, other: Report) -> str:
         return f"at place {other.place} {self._own[other.place]}, and {other}"
 
     def _votes(self, place: int) -> list[Report]:
-        """The other votes that can be compared with this server's: one of each node, its own too
-        where that is of another of its servers, which has another sum."""
+        """The other votes to compare with this server's: one for each node, including its own node
+        if another server of it has another sum."""
         own = self._own[place]
         return [it for it in self._heard.get(place, {}).values() if it.skips == own.skips
                 and (it.node != self._node or it.total != own.total)]
@@ -146,7 +148,7 @@ class Agreement:
         return 1 + sum(it.total == total for it in self._votes(place))
 
     def _most(self, place: int) -> int:
-        """How many have the sum that most of the others have, which is not this server's."""
+        """How many votes the most frequent sum has among those that differ from this server's."""
         return max(Counter(it.total for it in self._against(place)).values(), default=0)
 
     def _judge(self, place: int) -> None:

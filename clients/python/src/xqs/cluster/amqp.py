@@ -1,4 +1,4 @@
-"""The log as a stream of RabbitMQ: the one module beside its links that speaks to it."""
+"""The log as a stream of RabbitMQ. Only this module and its links speak to RabbitMQ."""
 
 import asyncio
 import uuid
@@ -20,9 +20,9 @@ from xqs.cluster.log import Away, CannotFollow
 from xqs.cluster.steps import passed
 
 PREFETCH = 16
-"""So many messages that were not taken yet come ahead."""
+"""How many messages the broker may send ahead."""
 LOOK = 1.0
-"""Seconds between two looks whether the broker still has this consumer."""
+"""Seconds between two checks whether the broker still has this consumer."""
 STREAM = {"x-queue-type": "stream"}
 READING = Words("the log is at", "the log at {} is lost", "no log at")
 WRITING = Words("writes go to", "writes can't go to {} any more", "no writes to")
@@ -33,11 +33,11 @@ T = TypeVar("T")
 
 
 class AmqpLog:
-    """A stream of RabbitMQ, read by one connection to one of its brokers and written by another.
+    """A stream of RabbitMQ, read by a connection to one of its brokers and written by another.
 
-    An engine that wants disk or memory takes nothing from a connection that writes, not even the
-    acknowledgements of what it reads: so there are two. `run` keeps them, and calls `came_up` at
-    each new one that writes. The stream is made where it is not there.
+    There are two connections, because an engine that is short of disk or memory takes nothing from
+    a connection that writes, not even the acknowledgements of what it reads. `run` keeps them up,
+    and calls `came_up` at each new one that writes. A missing stream is created.
     """
 
     def __init__(self, address: LogAddress, say: Callable[[str], None]) -> None:
@@ -60,13 +60,13 @@ class AmqpLog:
         return self._reading.is_up
 
     async def run(self) -> None:
-        """Connects to one broker after the other, for as long as this runs."""
+        """Connects to one broker after another, for as long as this runs."""
         await asyncio.gather(self._reading.run(), self._writing.run())
 
     async def _begin_reading(self, connection: AbstractConnection) -> None:
-        """That the stream is there, with a copy at this broker."""
+        """Checks that the stream exists, with a copy at this broker."""
         await self._made(connection)
-        # (what is no stream is refused where messages are asked of it)
+        # (another kind of queue is refused when messages are requested)
         with suppress(CannotFollow):
             await self._look_for_copy(connection)
 
@@ -76,7 +76,7 @@ class AmqpLog:
         self._publisher = channel
 
     async def _made(self, connection: AbstractConnection) -> AbstractChannel:
-        """A channel, once the stream is there."""
+        """A channel, once the stream exists."""
         with told_as_away():
             try:
                 channel = await connection.channel()
@@ -99,7 +99,7 @@ class AmqpLog:
         await asyncio.gather(self._reading.close(), self._writing.close())
 
     async def publish(self, message: bytes) -> None:
-        """Adds a message; comes back once it is confirmed. Raises Away."""
+        """Adds a message; returns once it is confirmed. Raises Away."""
         publisher = self._publisher
         if publisher is None or not self.is_up:
             raise Away("there is no connection to the log")
@@ -108,7 +108,7 @@ class AmqpLog:
             await publisher.default_exchange.publish(sent, routing_key=self.name)
 
     async def messages(self, after: int) -> AsyncGenerator[tuple[int, bytes], None]:
-        """The messages behind an offset, as they come; at last raises Away."""
+        """The messages after an offset, as they come; raises Away at the end."""
         async with self._inbox(after + 1 if after >= 0 else "first", PREFETCH) as inbox:
             while (message := await inbox.get()) is not None:
                 yield offset_of(message), message.body
@@ -123,7 +123,8 @@ class AmqpLog:
 
     @asynccontextmanager
     async def _inbox(self, begin: int | str, prefetch: int) -> AsyncIterator[Inbox]:
-        """Messages by a channel of their own. Raises Away; NoCopy has the next broker tried."""
+        """Messages on a channel of their own. Raises Away; NoCopy makes the next broker be
+        tried."""
         connection = self._reading.connection()
         inbox: Inbox = asyncio.Queue()
         channel = await self._asked(_channel(connection))
@@ -149,7 +150,7 @@ class AmqpLog:
         return await queue.consume(inbox.put, arguments={OFFSET: begin})
 
     async def _end_inbox(self, inbox: Inbox, channel: AbstractChannel, tag: str) -> None:
-        """Ends what comes where the connection is given up, or the broker has cancelled it."""
+        """Ends the messages if the connection is given up, or if the broker has cancelled them."""
         while _has(channel, tag):
             with suppress(TimeoutError):
                 await asyncio.wait_for(self._reading.lost.wait(), LOOK)
@@ -157,19 +158,19 @@ class AmqpLog:
         inbox.put_nowait(None)
 
     async def first_message(self) -> tuple[int, bytes]:
-        """The oldest message that the log has, with its offset. Raises Away."""
+        """The oldest message in the log, with its offset. Raises Away."""
         async with self._inbox("first", 1) as inbox:
             message = await _one(inbox)
             return offset_of(message), message.body
 
     async def end_offset(self) -> int:
-        """The offset of a message that is added now: of one that nobody else sends. Raises Away."""
+        """The offset of a message that is added now, which no other sender adds. Raises Away."""
         own = probe(uuid.uuid4().bytes)
 
         async def find() -> int:
             async with self._inbox("next", PREFETCH) as inbox:
                 await self.publish(own)
-                # (a copy that lags gives older ones before it)
+                # (a copy that lags first gives older ones)
                 while (message := await _one(inbox)).body != own:
                     await self._asked(_acknowledged(message))
                 return offset_of(message)
@@ -177,7 +178,7 @@ class AmqpLog:
         return await self._asked(find(), 2 * PATIENCE)
 
     async def copies(self) -> dict[str, bool | None]:
-        """Of each broker whether it has a copy of the log; None where it does not answer."""
+        """For each broker whether it has a copy of the log; None if it doesn't answer."""
         found = await asyncio.gather(*(self._has_copy(it) for it in self.brokers))
         return dict(zip(map(shown, self.brokers), found, strict=True))
 
@@ -199,7 +200,7 @@ class AmqpLog:
         return True
 
     async def _look_for_copy(self, connection: AbstractConnection) -> None:
-        """Raises NoCopy where the broker has none."""
+        """Raises NoCopy if the broker has no copy."""
         with told_as_away():
             channel = await _channel(connection)
             await self._consumed(channel, asyncio.Queue(), "next", 1)
@@ -235,7 +236,7 @@ async def _one(inbox: Inbox) -> AbstractIncomingMessage:
 
 
 def offset_of(message: AbstractIncomingMessage) -> int:
-    """The offset of a message in its stream. CannotFollow where it comes from no stream."""
+    """The offset of a message in its stream. Raises CannotFollow if it comes from no stream."""
     offset = message.headers.get(OFFSET)
     if not isinstance(offset, int):
         raise CannotFollow(NO_STREAM)

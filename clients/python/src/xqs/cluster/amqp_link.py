@@ -1,4 +1,4 @@
-"""A connection to one of the brokers, kept up for as long as it runs."""
+"""A connection to one of the brokers, which is made again whenever it is lost."""
 
 import asyncio
 import itertools
@@ -21,25 +21,25 @@ from xqs.cluster.log import Away, CannotFollow
 PATIENCE = 5.0
 """Seconds for an answer of a broker."""
 FAREWELL = 1.0
-"""Seconds for a broker to answer that a connection or a channel ends."""
+"""Seconds for a broker to confirm that a connection or a channel ends."""
 PAUSE, LONGEST_PAUSE = 0.2, 2.0
-"""Seconds before the next broker is tried, where one was tried in vain."""
+"""Seconds before the next broker is tried after a failure."""
 AGAIN_TOLD = 60.0
-"""Seconds after which a loss for the same reason is told again."""
+"""Seconds after which a loss for the same reason is reported again."""
 OFFSET = "x-stream-offset"
-NO_STREAM = "what has the log's name is a queue and no stream: name another log"
+NO_STREAM = "the log's name is that of a queue, not a stream: name another log"
 NO_COPY = "this broker has no copy of the log that runs"
 _NO_REPLICA = "replica"
-"""What the engine says where a broker has no copy."""
+"""The engine's message if a broker has no copy."""
 
 
 class NoCopy(Away):
-    """The broker at hand has no copy of the log; others have."""
+    """The current broker has no copy of the log; others have one."""
 
 
 @dataclass(frozen=True)
 class Words:
-    """What is said of a link: that it is there, that it is lost, and that it can't be made."""
+    """The messages about a link: that it is up, that it is lost, and that it can't be made."""
 
     there: str
     lost: str
@@ -47,10 +47,10 @@ class Words:
 
 
 class Link:
-    """One connection at a time to one of several brokers, tried one after the other.
+    """One connection at a time to one of several brokers, tried one after another.
 
-    `opened` is called with each new connection, and makes it ready; where it raises Away, the next
-    broker is tried. The connection counts as up after it, and `came_up` is called.
+    `opened` is called with each new connection, and prepares it; if it raises Away, the next broker
+    is tried. Then the connection is up, and `came_up` is called.
     """
 
     def __init__(self, brokers: Sequence[str], words: Words, say: Callable[[str], None],
@@ -73,19 +73,19 @@ class Link:
         return self._up.is_set()
 
     def connection(self) -> AbstractConnection:
-        """The connection at hand. Raises Away."""
+        """The current connection. Raises Away."""
         if self._connection is None or not self.is_up:
             raise Away("there is no connection to the log")
         return self._connection
 
     async def run(self) -> None:
-        """Connects to one broker after the other, for as long as this runs."""
+        """Connects to one broker after another, for as long as this runs."""
         failed: dict[str, str] = {}
         pauses = Pauses(PAUSE, LONGEST_PAUSE)
         for broker in itertools.cycle(self._brokers):
             try:
                 await self._connect(broker)
-            except Exception as error:  # noqa: BLE001 (whatever it is, the next broker is tried)
+            except Exception as error:  # noqa: BLE001 (after any error the next broker is tried)
                 if failed.get(broker) != str(error):
                     self._say(f"{self._words.none} {shown(broker)}: {reason(error)}")
                 failed[broker] = str(error)
@@ -100,8 +100,8 @@ class Link:
             await self._disconnect()
 
     def _is_news(self, why: str) -> bool:
-        """Whether a connection was not lost for the same reason a moment ago: while an engine takes
-        or gives nothing, each broker is tried again and again."""
+        """Whether a loss is news: whether no connection was lost for the same reason a moment ago.
+        While an engine takes or gives nothing, each broker is tried again and again."""
         now = asyncio.get_running_loop().time()
         if now - self._told.get(why, -AGAIN_TOLD) < AGAIN_TOLD:
             return False
@@ -126,11 +126,11 @@ class Link:
         self.came_up()
 
     def on_close(self, _: object = None, error: BaseException | None = None) -> None:
-        """The connection or a channel of it was closed."""
+        """Notes that the connection or one of its channels was closed."""
         self.drop(reason(error) if error else "the connection was closed")
 
     def drop(self, why: str) -> None:
-        """Gives up the connection at hand, so that another one is made."""
+        """Gives up the current connection, so that another one is made."""
         if not self.lost.is_set():
             self._why = why
             self._up.clear()
@@ -144,7 +144,7 @@ class Link:
 
     async def close(self) -> None:
         """Ends the connection."""
-        self.drop("it is not wanted any more")
+        self.drop("it is no longer needed")
         await self._disconnect()
 
 
@@ -157,7 +157,7 @@ async def _of(work: Awaitable[None]) -> None:
 
 
 async def farewell(connection: AbstractConnection) -> None:
-    """Ends a connection, whether its broker answers or not."""
+    """Ends a connection, even if its broker doesn't answer."""
 
     async def close() -> None:
         await connection.close()
@@ -168,12 +168,12 @@ async def farewell(connection: AbstractConnection) -> None:
 
 @contextmanager
 def told_as_away() -> Iterator[None]:
-    """Raises Away for what the package raises of a connection that does not work, or no longer;
-    NoCopy where the broker has no copy, CannotFollow where a queue takes no offset."""
+    """A context that raises Away for the package's errors of a broken connection; NoCopy if the
+    broker has no copy, CannotFollow if a queue takes no offset."""
     try:
         yield
     except asyncio.CancelledError as error:
-        # The package cancels what waits for a connection that ends.
+        # The package cancels tasks that wait for a connection that ends.
         task = asyncio.current_task()
         if task is not None and task.cancelling():
             raise
@@ -189,13 +189,13 @@ def told_as_away() -> Iterator[None]:
 
 
 def reason(error: BaseException) -> str:
-    """What an error of the package says."""
+    """The message of an error of the package."""
     if isinstance(error, TimeoutError):
         return "no answer"
     return str(error) or type(error).__name__
 
 
 def quiet() -> None:
-    """Has the package print nothing of lost connections: what runs here tells of them."""
+    """Silences the package's messages about lost connections: the program has its own."""
     for name in ("aio_pika", "aiormq", "pamqp"):
         logging.getLogger(name).setLevel(logging.CRITICAL + 1)

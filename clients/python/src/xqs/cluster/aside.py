@@ -20,33 +20,33 @@ if TYPE_CHECKING:
     from xqs.cluster.follower import Follower
 
 SKIPPED = refusal("xqs:SKIPPED")
-"""What a store or drop is answered that is not carried out."""
+"""The reply to a store or drop that is skipped."""
 LOOK = 1.0
 """Seconds between two looks for a later snapshot."""
 SILENT = 15.0
-"""Seconds without a message after which the log is asked anew; whoever stepped aside writes no
-marks, so that an idle log is silent too."""
+"""Seconds without a message after which the log is read anew. A server that stepped aside writes no
+marks, so an idle log is silent too."""
 AGAIN, LONGEST_PAUSE = 0.5, 5.0
 _PLACE = re.compile(rb"[0-9]{1,18}")
 
 
 def skip_entry(place: int) -> bytes:
-    """The entry by which a place is skipped."""
+    """The entry that skips a place."""
     return EntryKind.SKIP.value + str(place).encode()
 
 
 def skipped_place(entry: bytes) -> int | None:
-    """The place that an entry skips; None where it skips none."""
+    """The place that an entry skips; None if it skips none."""
     if entry[:1] != EntryKind.SKIP or not _PLACE.fullmatch(entry[1:]):
         return None
     return int(entry[1:])
 
 
 def ways_back(follower: "Follower") -> Iterator[Coroutine[Any, Any, str]]:
-    """What may have a server that halted go on; each says what it was.
+    """The events that may let a halted server go on; each returns a message about it.
 
-    The one that waits for a snapshot ends the server when it is there. Raises Differs where most
-    nodes say that this server is wrong.
+    The one that waits for a snapshot ends the server when the snapshot is there. Raises Differs if
+    most nodes say that this server is wrong.
     """
     if follower.may_return:
         yield _replaced(follower)
@@ -84,7 +84,7 @@ async def _settled(follower: "Follower", place: int) -> str:
 
 
 async def entry_ahead(log: Log, offset: int, is_it: Callable[[bytes], bool]) -> None:
-    """Waits until the log has, behind the offset, an entry that is the one."""
+    """Waits until the log has, after the offset, an entry that passes the test."""
     pauses = Pauses(AGAIN, LONGEST_PAUSE)
     while True:
         try:
@@ -108,11 +108,11 @@ def _entries(message: bytes) -> Sequence[bytes]:
 
 async def later_snapshot(folder: Path | None, offset: int, fits: Callable[[State], bool],
                          say: Callable[[str], None]) -> Snapshot:
-    """Waits until the folder has a whole snapshot of behind the offset, of a state that fits."""
+    """Waits until the folder has a whole snapshot from after the offset, with a state that fits."""
     judged: set[tuple[Path, int, int]] = set()
     while True:
         paths = await asyncio.to_thread(_later, folder, offset) if folder else []
-        # (one that is being copied is judged again when it has grown)
+        # (a snapshot that is being copied is checked again when it has grown)
         for path in [it for it in paths if _version(it) not in judged]:
             judged.add(_version(path))
             try:
@@ -131,6 +131,6 @@ def _version(path: Path) -> tuple[Path, int, int]:
 
 
 def _later(folder: Path, offset: int) -> Sequence[Path]:
-    """The snapshots behind an offset, the newest first."""
+    """The snapshots after an offset, the newest first."""
     least = snapshots.path_of(folder, offset + 1)
     return [it for it in reversed(snapshots.files(folder)) if it.name >= least.name]

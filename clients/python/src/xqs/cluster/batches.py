@@ -1,9 +1,9 @@
-"""Messages of the log: entries of one sender, numbered, several in a message.
+"""Messages of the log: numbered entries of one sender, several in a message.
 
 A message is the four bytes `xqs1`, the sender's name after its length in one byte, the number of
 the first entry in eight bytes, and each entry after its length in four bytes. All numbers are
-big-endian. An entry is its kind, one byte, and its body: of a store and a drop what the client sent
-behind the tag of its frame. Entries of a message have numbers that follow each other.
+big-endian. An entry is its kind, one byte, and its body; the body of a store or drop is what
+follows the tag in the client's frame. The entries of a message have consecutive numbers.
 """
 
 import struct
@@ -18,7 +18,7 @@ MAGIC = b"xqs1"
 MAX_ENTRIES = 256
 """The most entries that share a message."""
 MAX_BYTES = 2 << 20
-"""The most bytes of entries that share a message; it has room for the longest one."""
+"""The most bytes of entries that share a message; the longest entry fits."""
 MAX_SENDER = 100
 """The longest name of a sender, in bytes."""
 
@@ -33,26 +33,26 @@ class EntryKind(bytes, Enum):
     STORE = b"S"
     DROP = b"D"
     MARK = b"N"
-    """Nothing is carried out: who wrote it waits for all that stands before it."""
+    """Nothing is carried out: its writer waits for all that is before it."""
     REPORT = b"C"
     """A sum over all replies up to a place, for others to compare."""
     END = b"E"
     """All nodes take a snapshot here and end."""
     IDENTITY = b"I"
-    """What names the log: the first one in it counts."""
+    """A name for the log: the first one in it counts."""
     HELLO = b"H"
-    """A node begins; the name and the life of it are those of the sender."""
+    """A node begins; the sender has its name and its life."""
     TAKEN = b"T"
-    """A sender that began has the name of one that was there before."""
+    """A sender that began has the name of an earlier one."""
     SKIP = b"K"
-    """The store or drop of a place is not carried out."""
+    """The store or drop of a place is skipped."""
 
 
 MARK = EntryKind.MARK.value
 
 
 PROBER = "probe"
-"""The sender of probes; each has the number 1, so that nobody takes more than the first."""
+"""The sender of probes; each has the number 1, so only the first is ever taken."""
 
 
 class NoBatch(XqError, ValueError):
@@ -61,7 +61,7 @@ class NoBatch(XqError, ValueError):
 
 @dataclass(frozen=True, slots=True)
 class Batch:
-    """Entries of one sender; the first has the number `first`, each next one the next."""
+    """Entries of one sender; the first has the number `first`, and the numbers are consecutive."""
 
     sender: str
     first: int
@@ -83,12 +83,12 @@ def encode(batch: Batch) -> bytes:
 
 
 def probe(token: bytes) -> bytes:
-    """The message of a mark that is told from all others by its token."""
+    """The message of a mark, which its token distinguishes from all others."""
     return encode(Batch(PROBER, 1, (MARK + token,)))
 
 
 def decode(message: bytes) -> Batch:
-    """The batch of a message; NoBatch where it is none."""
+    """The batch in a message. Raises NoBatch if it is none."""
     try:
         magic, length = _HEAD.unpack_from(message)
         sender = message[_HEAD.size : _HEAD.size + length].decode()
@@ -112,7 +112,7 @@ def _entries(message: bytes, at: int) -> Iterable[bytes]:
 
 
 def fitting(entries: Iterable[bytes]) -> list[bytes]:
-    """The first entries, as many as share a message; an end stands alone."""
+    """The first entries that may share a message; an end is alone in its message."""
     taken: list[bytes] = []
     size = 0
     for entry in entries:

@@ -1,7 +1,7 @@
-"""How `xqs snapshot` asks a node that runs: a socket in the node's folder of snapshots.
+"""How `xqs snapshot` asks a running node: by a socket in the node's folder of snapshots.
 
-A request is one line, as `snapshot`, `end`, `status` or `skip PLACE`; the answer is `done` or
-`refused`, a space, and a line of what is to be said.
+A request is one line, as `snapshot`, `end`, `status` or `skip PLACE`. The answer is `done` or
+`refused`, a space, and a line of text.
 """
 
 import asyncio
@@ -16,9 +16,9 @@ MOST = 4096
 """The longest line, in bytes."""
 
 Action = Callable[[str], Awaitable[str]]
-"""Carries a request out, with the words behind its first one."""
+"""Carries out a request, with the words after its first one."""
 ANSWER = 600.0
-"""Seconds for an answer: a large snapshot takes its time."""
+"""Seconds for an answer: a large snapshot takes time."""
 
 
 class NotRunning(XqError):
@@ -54,7 +54,8 @@ async def serve(
 
 
 def ask(folder: Path, request: str) -> tuple[bool, str]:
-    """Asks the node; whether it was done, and what is said of it. NotRunning."""
+    """Asks the node. Returns whether the request was done, and the text of the answer. Raises
+    NotRunning."""
     with socket.socket(socket.AF_UNIX) as connection:
         connection.settimeout(ANSWER)
         try:

@@ -1,4 +1,4 @@
-"""The end of a process whose package leaves tasks behind that do not end when cancelled."""
+"""The end of a process when its package leaves tasks that do not end when cancelled."""
 
 import asyncio
 import os
@@ -9,13 +9,13 @@ from typing import Any
 from xqs.errors import XqError
 
 LEFT = 1.0
-"""Seconds for the tasks that are left to end once they are cancelled."""
+"""Seconds that the remaining tasks have to end once they are cancelled."""
 
 
 def run(work: Coroutine[Any, Any, int], command: str) -> int:
-    """As `asyncio.run`, for the exit status of a command, which is not held up by such tasks.
+    """Like `asyncio.run`, for the exit status of a command, but such tasks don't delay it.
 
-    `asyncio.run` waits for them for ever: where there are any, the process ends at once.
+    `asyncio.run` waits for them without limit. Here the process ends at once if there are any.
     """
     return asyncio.run(_ended(work, command))
 
@@ -34,7 +34,7 @@ async def _ended(work: Coroutine[Any, Any, int], command: str) -> int:
 
 
 async def _are_deaf() -> bool:
-    """Cancels all other tasks; whether some have not ended then."""
+    """Cancels all other tasks. Returns whether some have not ended."""
     others = asyncio.all_tasks() - {asyncio.current_task()}
     for task in others:
         task.cancel()

@@ -1,4 +1,4 @@
-"""The messages of the log behind a follower's place, as they come, whatever becomes of brokers."""
+"""The messages of the log after a follower's place, as they come, even when brokers fail."""
 
 import asyncio
 import hashlib
@@ -11,26 +11,26 @@ from xqs.cluster.log import Away, CannotFollow, Log
 from xqs.cluster.state import State
 
 AGAIN, LONGEST_PAUSE = 0.2, 2.0
-"""Seconds before the log is asked again where it could not be read; while it can be reached each
-pause doubles."""
+"""Seconds before the log is read again after a failure; while it can be reached, each pause
+doubles."""
 SILENT = 6.0
-"""Seconds without a message, a mark of this node too, after which messages are asked for anew."""
+"""Seconds without a message, even a mark of this node, after which messages are requested anew."""
 AT_ONCE = 5.0
-"""Seconds in which the last message that was taken has to come, where it is asked for again."""
+"""Seconds in which the last message that was taken must come when it is requested again."""
 DIGITS = 16
 
 
 def digest_of(message: bytes) -> str:
-    """What tells a message from others in its place."""
+    """A digest that tells a message from any other in its place."""
     return hashlib.sha256(message).hexdigest()[:DIGITS]
 
 
 class Feed:
-    """Messages behind a place, from one beginning to the next.
+    """Messages after a place, from one beginning to the next.
 
-    Where none comes for too long, or the connection ends, they are asked for anew from the place
-    that was reached, for as long as it takes, and each time the message of that place is compared
-    with the one that was taken there: a log that was made anew has another.
+    If none comes for too long, or if the connection ends, they are requested anew from the place
+    that was reached, as often as needed. Each time the message at that place is compared with the
+    one that was taken there: a log that was created anew has a different one.
     """
 
     def __init__(self, name: str, log: Log, say: Callable[[str], None]) -> None:
@@ -43,7 +43,7 @@ class Feed:
         self._was_heard = False
 
     async def messages(self, state: State) -> AsyncGenerator[tuple[int, bytes], None]:
-        """The messages behind a state that goes on as they are taken. Raises CannotFollow."""
+        """The messages after a state that advances as they are taken. Raises CannotFollow."""
         while True:
             try:
                 async with aclosing(self._once(state)) as messages:
@@ -57,7 +57,7 @@ class Feed:
                     await asyncio.sleep(AGAIN)
 
     async def _once(self, state: State) -> AsyncGenerator[tuple[int, bytes], None]:
-        """The messages until one is missed. Raises Away then, and CannotFollow."""
+        """The messages until one is missed; then raises Away. Raises CannotFollow."""
         async with aclosing(self._log.messages(state.offset - 1)) as messages:
             if state.offset >= 0:
                 yield await self._first(messages, state)
@@ -66,8 +66,8 @@ class Feed:
 
     async def _first(self, messages: AsyncGenerator[tuple[int, bytes], None],
                      state: State) -> tuple[int, bytes]:
-        """The message of the state's place, which has to be the one that was taken there; a later
-        one, where the log no longer has that."""
+        """The message at the state's place, which must be the one that was taken there; or a later
+        one, if the log no longer has that."""
         try:
             async with asyncio.timeout(AT_ONCE):
                 offset, message = await anext(messages)
@@ -79,7 +79,7 @@ class Feed:
         if offset == state.offset and state.digest not in ("", digest_of(message)):
             raise CannotFollow(await self._made_anew(state, f"at offset {offset} it has another "
                                                             "message"))
-        # (an old one says nothing of whether new ones come)
+        # (an old one doesn't show whether new ones come)
         if offset > state.offset:
             self._note_heard()
         return offset, message
@@ -94,14 +94,14 @@ class Feed:
         return found
 
     def _silence(self, why: str) -> Away:
-        """What is raised of a silence; after two in turn another connection is made too."""
+        """The error for a silence; after two in a row a new connection is made too."""
         self._silences += 1
         if self._silences > 1:
             self._log.drop_reading(why)
         return Away(why)
 
     async def _check_end(self, state: State) -> None:
-        """That the log goes as far as this follower has come; else it is another one."""
+        """Checks that the log reaches this follower's place; otherwise it is a different log."""
         end = await self._log.end_offset()
         if end <= state.offset:
             raise CannotFollow(await self._made_anew(state, f"it ends at offset {end}"))
@@ -115,7 +115,7 @@ class Feed:
     def _note_break(self, why: str, state: State) -> None:
         if self._broke is None:
             self._broke = asyncio.get_running_loop().time()
-            # (that there is no connection is told by whoever makes them)
+            # (its maker reports that there is no connection)
             if self._log.is_read:
                 self._say(f"{self._name}: {why}: the log is followed anew from {state}")
 

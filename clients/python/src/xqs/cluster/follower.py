@@ -37,23 +37,23 @@ if TYPE_CHECKING:
     from xqs.cluster.reads import Reads
 
 AGAIN = 0.2
-"""Seconds between two looks whether another server has taken the place of one that ended."""
+"""Seconds between two checks whether a new server has replaced one that ended."""
 VAIN_TRIES = 3
-"""So many servers in turn may end at one entry; then it is left to whoever looks at it."""
+"""How many servers in a row may end at one entry; then an operator must look at it."""
 
 GONE = 5.0
-"""Seconds for which a server may be at a query whose client has gone: to fill another one takes
+"""Seconds that a server may work on a query whose client has gone: filling another server takes
 time too."""
 OWN_SECONDS = 120.0
-"""Seconds for one request of a snapshot or of a restore, at least."""
+"""The least number of seconds for one request of a snapshot or a restore."""
 
 
 class Halted(XqError):
-    """The server can't carry out what comes next in the log, and has carried out all before it."""
+    """The server can't carry out the next entry of the log, and has carried out all before it."""
 
 
 class GoBack(Exception):
-    """The server has carried out an entry that all nodes are to skip."""
+    """The server has carried out an entry that all nodes skip."""
 
 
 class Ended(Exception):
@@ -62,8 +62,8 @@ class Ended(Exception):
 
 @dataclass(frozen=True)
 class Given:
-    """What a follower is given: its number, its name and that of its node, its server's command,
-    the program that this runs, where its documents and snapshots are, and the memory of its
+    """The settings of a follower: its number, its name and that of its node, its server's command,
+    the program that this runs, the places of its documents and snapshots, and the memory of its
     server."""
 
     number: int
@@ -77,17 +77,17 @@ class Given:
 
 
 class Follower:
-    """A server that carries out all entries of the log in their order, and what it stands at.
+    """A server that carries out all entries of the log in order, and the place that it has reached.
 
-    Between two messages, and never within one, `between` may be held: the documents are then those
-    of `state`. `replica` is its server, with the line of what that was asked, `waits_since` the
-    time at which the wait for the next message began. While `is_reporting` it reports its sums.
-    `retired` is a server that ends because another one is to take its place.
+    Between two messages, never within one, `between` may be held: the documents are then those of
+    `state`. `replica` is its server, with its queue of requests. `waits_since` is the time at which
+    the wait for the next message began. While it `is_reporting` it reports its sums. `retired` is a
+    server that ends because another one is to replace it.
 
     `carried` is the place of the last entry that the server has answered, `line` that of the last
-    one in its line, and `promised` the line at which the last read was sent that it has not
-    answered yet. A server that halted and `may_return`, or was tied with others at the place
-    `tied_at`, waits for what lets it go on; `skips` are the places that it is not to carry out.
+    one in its queue, and `promised` the value of `line` when the last unanswered read was sent. A
+    server that halted and `may_return`, or was tied with others at the place `tied_at`, waits for
+    an event that lets it go on. `skips` are the places that it does not carry out.
     """
 
     def __init__(self, given: Given, log: Log, outbox: Outbox, reads: "Reads",
@@ -115,12 +115,12 @@ class Follower:
 
     @property
     def name(self) -> str:
-        """How messages call it."""
+        """Its name in messages."""
         return self.given.name
 
     @property
     def backend(self) -> Backend:
-        """The server that runs, or has ended, once one was started."""
+        """The current server, or the last one, once one was started."""
         return self.replica.backend
 
     @property
@@ -160,7 +160,7 @@ class Follower:
         return replica
 
     def go_on_with(self, replica: Replica) -> None:
-        """Has a process with the documents of this place answer from now on."""
+        """Makes a process with the documents of this place the server from now on."""
         self.replica = replica
         replica.state = ServerState.READY
         self._reads.changed()
@@ -175,11 +175,11 @@ class Follower:
         return await asyncio.to_thread(snapshots.newest, folder, self.say, self.fits)
 
     def fits(self, state: State) -> bool:
-        """Whether a state has skipped all places up to it that are to be skipped."""
+        """Whether a state has skipped all places up to it that must be skipped."""
         return all(it > state.place or it in state.skips for it in self.skips)
 
     def _checked(self, state: State) -> State:
-        """A state to begin from. Another program may go on from there, where all nodes change."""
+        """A state to begin from. A different program may go on from there if all nodes change."""
         if state.log != self.log.name:
             raise CannotFollow(f"the documents are of the log {state.log}, not {self.log.name}")
         if state.program != self.given.program:
@@ -189,7 +189,7 @@ class Follower:
         return state
 
     async def run(self) -> None:
-        """Follows the log until it halts; a server that ends is started again.
+        """Follows the log until the server halts; starts a server again that ends.
 
         Raises Ended, Differs, StartFailed, and errors of a new beginning.
         """
@@ -219,10 +219,10 @@ class Follower:
                         await self._begin_again()
 
     async def _server_ended(self) -> None:
-        """Waits until the server has ended, and no other one takes its place.
+        """Waits until the server has ended for good.
 
-        Who follows the log is stopped then, wherever it is, and must not be where a server goes on:
-        what that carried out meanwhile would be carried out again.
+        The task that follows the log is then stopped, wherever it is. It must not be stopped while
+        a server goes on: the next one would carry out again what that server does meanwhile.
         """
         while True:
             replica = self.replica
@@ -232,7 +232,7 @@ class Follower:
             await asyncio.sleep(AGAIN)
 
     async def rest(self) -> bool:
-        """Waits until the server that halted can go on; False once it has ended, and can't."""
+        """Waits until the halted server can go on; False once it has ended, and can't."""
         ways = [asyncio.create_task(it) for it in aside.ways_back(self)]
         ended = asyncio.create_task(self.backend.ended.wait())
         try:
@@ -256,7 +256,7 @@ class Follower:
         self._reads.changed()
 
     async def _go_on(self, why: str) -> None:
-        """Follows the log again, with the server that runs or another one."""
+        """Follows the log again, with the running server or another one."""
         async with self.between:
             if self.backend.ended.is_set():
                 await self._begin_again()
@@ -265,9 +265,9 @@ class Follower:
         self._reads.changed()
 
     def end_held(self, seconds: float, entry_seconds: float) -> None:
-        """Ends a server that a read holds for longer than the seconds, or an entry for longer than
-        its own; the next server halts before that entry. What this node asks for a snapshot may
-        take long, and not for ever."""
+        """Ends a server if a read takes it longer than `seconds`, or an entry longer than its own
+        limit; the next server halts before that entry. A node's own request for a snapshot may take
+        long, but not forever."""
         if not self.replica.runs or not self.backend.in_flight:
             return
         front, worked = self.backend.in_flight[0], self.backend.worked()
@@ -279,27 +279,27 @@ class Follower:
         if worked <= seconds:
             return
         if isinstance(front, Entry):
-            self._aside[front.place] = (f"the entry of place {front.place:,} held its server for "
-                                        f"over {entry_seconds:g} seconds")
+            self._aside[front.place] = (f"the entry of place {front.place:,} occupied its server "
+                                        f"for over {entry_seconds:g} seconds")
         self.backend.overdue = front
         self.backend.kill()
 
     def _halt(self, error: XqError) -> None:
-        """Notes why the server no longer follows the log, and says what may have it go on."""
+        """Notes why the server no longer follows the log, and reports what may let it go on."""
         self.halted = why = str(error)
         self.may_return = isinstance(error, Halted)
         self.tied_at = self.agreement.tied_at if isinstance(error, Tied) else 0
         place = self.state.place + 1
         hint = ""
         if self.may_return:
-            hint = (f"; it goes on from a later snapshot of another node, once that is in its "
-                    f"folder, or where all nodes skip the entry (xqs node --skip {place})")
+            hint = (f"; it goes on when a later snapshot of another node is in its folder, or when "
+                    f"all nodes skip the entry (xqs node --skip {place})")
         self.say(f"{self.name} steps aside, and no longer follows the log, at {self.state}: "
                  f"{why}; reads are answered with the documents of that place{hint}")
         self._reads.changed()
 
     async def _begin_again(self) -> None:
-        """Starts a server in the place of one that has ended, from the newest snapshot."""
+        """Starts a server in place of one that has ended, from the newest snapshot."""
         why = self.replica.why or self.backend.status()
         self.say(f"{self.name}: the server is started again ({why}, at {self.state})")
         self._settle_in_flight()
@@ -314,8 +314,8 @@ class Follower:
                 self.say(str(error))
 
     def _settle_in_flight(self) -> None:
-        """Settles what the server that ended had: each entry is carried out anew by the next one;
-        clients' reads go to other servers, or are answered."""
+        """Settles the requests of the server that ended: the next server carries out each entry
+        anew; clients' reads go to other servers, or are answered."""
         self.replica.state, self.promised = ServerState.DOWN, 0
         front = next(iter(self.backend.in_flight), None)
         if isinstance(front, Entry) and not front.unsent:
@@ -323,13 +323,13 @@ class Follower:
         self.settle_reads(self.replica)
 
     def settle_reads(self, replica: Replica) -> None:
-        """Gives others the reads that a server of this follower had when it ended."""
+        """Passes the reads of this follower's server on to others when it has ended."""
         self._reads.release(replica, self._blame(replica))
         self._reads.changed()
 
     @staticmethod
     def _blame(replica: Replica) -> bytes | None:
-        """What the read gets that the server was at, where that made it end, or may have."""
+        """The reply to the read that the server worked on, if that ended it, or may have."""
         is_innocent = replica.why or replica.backend.is_blameless()
         return blame(replica) or (None if is_innocent else WANTING_STORE)
 
@@ -340,12 +340,12 @@ class Follower:
         self._reads.on_reply(self, replica, request, reply)
 
     async def _follow(self) -> None:
-        """Takes each message of the log as it comes, until it raises what ends that."""
+        """Takes each message of the log as it comes, until an error ends that."""
         while True:
             try:
                 await self._take_all()
             except Away as error:
-                # (a gap could not be judged, since the log does not answer now)
+                # (the gap can't be judged, since the log doesn't answer now)
                 self.say(f"{self.name}: {error}: the log is followed anew from {self.state}")
                 await asyncio.sleep(AGAIN)
 
@@ -362,7 +362,8 @@ class Follower:
 
     @contextmanager
     def _working(self) -> Iterator[None]:
-        """This server has something to carry out: what waits, waits for it and not for the log."""
+        """A context in which this server has something to carry out: waiting clients wait for it,
+        not for the log."""
         self.waits_since = None
         self._outbox.busy += 1
         try:
@@ -377,11 +378,11 @@ class Follower:
         if first > self.state.offset + 1:
             raise CannotFollow(
                 f"the log {self.log.name} begins at offset {first}, and the documents are of "
-                f"{self.state}: what lies between is no longer there, so begin from a later "
-                "snapshot, which another node has")
+                f"{self.state}: the entries between are no longer there, so begin from a later "
+                "snapshot of another node")
 
     async def _take(self, offset: int, message: bytes) -> None:
-        """Takes a message; one that was taken before is left out. Raises Ended at an end."""
+        """Takes a message; leaves out one that was taken before. Raises Ended at an end."""
         passed("received")
         if offset <= self.state.offset:
             return
@@ -405,7 +406,7 @@ class Follower:
         self.state.offset, self.state.digest = offset, digest_of(message)
 
     async def _take_batch(self, batch: Batch) -> bool:
-        """Carries out the entries that were not seen; whether they end with an end."""
+        """Carries out the entries that are new. Returns whether they end with an end."""
         is_own = batch.sender == self._outbox.sender
         if is_own and self.state.seen.is_ahead(batch):
             self._outbox.send_again()
@@ -419,14 +420,15 @@ class Follower:
                 self._reads.raise_floor(self.state.place)
                 self._outbox.came_back(number, reply)
                 passed("answered")
-            # (what is raised of it is raised behind the entry, which is not to be taken twice)
+            # (its errors are raised after the entry, which must not be taken twice)
             if changes(entry):
                 self._report()
             is_end = entry[:1] == EntryKind.END
         return is_end
 
     async def _carry_out(self, entry: bytes, sender: str) -> bytes:
-        """Carries out an entry; the status and text of its reply, none of what is no change."""
+        """Carries out an entry. Returns the status and text of its reply; none if it is no
+        change."""
         if not changes(entry):
             self._hear(entry, sender)
             return b""
@@ -461,7 +463,8 @@ class Follower:
         return reply
 
     def _report(self) -> None:
-        """Reports the sum, where that is due: while this node catches up only what is disputed."""
+        """Reports the sum if that is due; while this node catches up, only if the sum is
+        disputed."""
         place, state = self.state.place, self.state
         if self.agreement.reached(place, state.total, state.skips):
             self.state.reports = self.agreement.sums
@@ -493,7 +496,7 @@ class Follower:
             if said := self.agreement.hear(report):
                 self.say(said)
         finally:
-            # (two that differ wait for what a third one says, also where it comes later)
+            # (two that differ wait for a third one's report, even if it comes later)
             if self.agreement.is_disputed(report.place):
                 self._post_report(report.place)
 
@@ -510,7 +513,7 @@ class Follower:
                      "documents begin again from before it")
 
     async def end(self) -> None:
-        """Ends the server in order, and notes beside its file where it stands."""
+        """Ends the server in order, and notes beside its file the place that it has reached."""
         if not self.replica.has_begun:
             return
         self.replica.state = ServerState.LEAVING

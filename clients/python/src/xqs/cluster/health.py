@@ -1,7 +1,7 @@
-"""`/health` and `/metrics` of a node by HTTP: what load balancers, Kubernetes and Prometheus ask.
+"""`/health` and `/metrics` of a node by HTTP: for load balancers, Kubernetes and Prometheus.
 
-What is answered is for reading alone, and has no documents in it, so that it may be asked from
-other machines too. It is answered by the loop that serves clients: one that hangs answers nothing.
+The answers only report, and have no documents in them, so other machines may ask too. The loop that
+serves clients gives them: if it hangs, nothing is answered.
 """
 
 import asyncio
@@ -13,7 +13,7 @@ from xqs.cluster.status import Status
 from xqs.listening import BACKLOG, PlaceError
 
 SECONDS = 5.0
-"""How long the head of a request may take to come."""
+"""How many seconds the head of a request may take."""
 MOST_LINES = 100
 _WORDS = {200: "OK", 404: "Not Found", 405: "Method Not Allowed", 503: "Service Unavailable"}
 _PLAIN = "text/plain; charset=utf-8"
@@ -48,7 +48,7 @@ async def serve(
 
 
 async def _head(reader: asyncio.StreamReader) -> tuple[str, str]:
-    """The method and the path of a request. ValueError where it is none."""
+    """The method and path of a request. Raises ValueError if it is none."""
     method, path, _ = (await reader.readline()).decode("latin-1").split()
     for _ in range(MOST_LINES):
         if not (await reader.readline()).strip():

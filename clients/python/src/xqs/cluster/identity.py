@@ -1,4 +1,5 @@
-"""The identity of a log: a word of chance in its first entry, by which one made anew is told."""
+"""The identity of a log: a random word in its first entry, which tells it from a log created
+anew."""
 
 import os
 
@@ -12,12 +13,12 @@ _BYTES = 8
 
 
 def new_entry() -> bytes:
-    """An entry that names a log, where no other one did before."""
+    """An entry that names a log, if no other one did before."""
     return EntryKind.IDENTITY.value + os.urandom(_BYTES).hex().encode()
 
 
 def of_batch(batch: Batch) -> str:
-    """The identity that a message gives to the log that begins with it; empty where it has none."""
+    """The identity that a message gives to the log that begins with it; empty if it has none."""
     for entry in batch.entries:
         if entry[:1] == EntryKind.IDENTITY:
             return entry[1:].decode(errors="replace")
@@ -25,7 +26,7 @@ def of_batch(batch: Batch) -> str:
 
 
 async def of_log(log: Log) -> str:
-    """The identity in the log's first message; empty where it is not there, or is not known."""
+    """The identity in the log's first message; empty if there is none, or it is unknown."""
     try:
         _, message = await within(PATIENCE, log.first_message())
         return of_batch(decode(message))
@@ -34,5 +35,5 @@ async def of_log(log: Log) -> str:
 
 
 def shown(identity: str) -> str:
-    """An identity as messages have it."""
+    """An identity in the form that messages show."""
     return identity or "(of no known identity)"

@@ -1,4 +1,4 @@
-"""Limits of time for what is asked of a broker: no wait on one lasts for ever."""
+"""Time limits for requests to a broker: no wait for one is endless."""
 
 import asyncio
 from collections.abc import Coroutine
@@ -10,15 +10,15 @@ T = TypeVar("T")
 
 
 class NoAnswer(Away):
-    """What was asked took longer than its limit."""
+    """A request took longer than its limit."""
 
 
 async def within(seconds: float, work: Coroutine[Any, Any, T]) -> T:
-    """What the work gives. NoAnswer where it takes longer, Away where whoever carries it out
-    cancels it.
+    """The result of the work. Raises NoAnswer if it takes longer, Away if it is cancelled
+    elsewhere.
 
-    The work is not awaited any more then, since a package that waits on a dead connection may not
-    end when it is cancelled.
+    Nobody waits for the work then, since a package that waits for a dead connection may not end
+    when it is cancelled.
     """
     task = asyncio.ensure_future(work)
     try:
@@ -35,7 +35,7 @@ async def within(seconds: float, work: Coroutine[Any, Any, T]) -> T:
 
 
 def _leave(task: "asyncio.Future[Any]") -> None:
-    """Cancels work for which nobody waits any more, and looks at what becomes of it."""
+    """Cancels work that nobody waits for any more, and looks at its result."""
     task.add_done_callback(lambda it: it.cancelled() or it.exception())
     task.cancel()
 
@@ -48,7 +48,7 @@ class Pauses:
         self._next = first
 
     def begin_anew(self) -> None:
-        """It went well: the next pause is the first one again."""
+        """After success: the next pause is the first one again."""
         self._next = self._first
 
     async def pause(self) -> None:

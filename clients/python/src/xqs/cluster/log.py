@@ -7,15 +7,15 @@ from xqs.errors import XqError
 
 
 class Away(XqError):
-    """The log can't be reached now; it is tried again."""
+    """The log can't be reached now; the caller tries again."""
 
 
 class CannotFollow(XqError):
-    """The log is not one that a server can follow: a node that begins is refused."""
+    """The log is not one that a server can follow, so a node can't begin with it."""
 
 
 class Log(Protocol):
-    """Messages in one order, which all see alike, each at an offset one above that before it."""
+    """Messages in one order, the same for all readers, with consecutive offsets."""
 
     name: str
 
@@ -28,16 +28,16 @@ class Log(Protocol):
         """Whether the log can be read now."""
 
     async def publish(self, message: bytes) -> None:
-        """Adds a message; comes back once it is kept by a majority.
+        """Adds a message; returns once a majority of brokers keeps it.
 
-        Away where that is not known: it may be in the log later.
+        Raises Away if that is unknown: the message may be in the log later.
         """
 
     def messages(self, after: int) -> AsyncGenerator[tuple[int, bytes], None]:
-        """The messages behind an offset, each with its own, as they come; at last raises Away.
+        """The messages after an offset, each with its own, as they come; raises Away at the end.
 
-        They begin later where the log no longer has the first ones. Raises CannotFollow where what
-        has the log's name is no log.
+        They begin later if the log no longer has the first ones. Raises CannotFollow if something
+        else has the log's name.
         """
 
     async def first_message(self) -> tuple[int, bytes]:
@@ -47,10 +47,10 @@ class Log(Protocol):
         """The offset of a message that is added now. Raises Away."""
 
     async def copies(self) -> dict[str, bool | None]:
-        """Of each place that keeps the log whether it has a copy; None where it does not answer."""
+        """For each broker of the log whether it has a copy; None if it doesn't answer."""
 
     def drop_reading(self, why: str) -> None:
-        """Gives up the connection by which messages come, so that another one is made."""
+        """Gives up the connection that reads, so that another one is made."""
 
     def drop_writing(self, why: str) -> None:
-        """Gives up the connection by which messages go, so that another one is made."""
+        """Gives up the connection that writes, so that another one is made."""

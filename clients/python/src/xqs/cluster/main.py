@@ -1,4 +1,5 @@
-"""`xqs node`: a server that follows a replicated log. `xqs snapshot`: asks one for a snapshot."""
+"""`xqs node`: a server that follows a replicated log. `xqs snapshot`: asks a node for a
+snapshot."""
 
 import argparse
 import asyncio
@@ -28,7 +29,7 @@ USAGE = ("xqs node --log amqp://HOST/NAME[,..] --listen unix:PATH|tcp:PORT [OPTI
          "[-- COMMAND [WORDS]]")
 DEFAULTS = Settings(client_window=64)
 SERVERS = 2
-"""Servers of a node where nothing else is said: one may be held, or take a snapshot."""
+"""The default number of a node's servers: one may be busy, or take a snapshot."""
 _NAME = re.compile(r"[A-Za-z0-9._-]{1,60}")
 
 say = partial(mux.say, command="node")
@@ -36,11 +37,11 @@ say = partial(mux.say, command="node")
 
 async def run(address: LogAddress, place: str, options: Options, settings: Settings,
               http: str | None = None) -> int:
-    """Runs a node until a signal, or until it ends by itself; gives the exit status.
+    """Runs a node until a signal, or until it ends by itself. Returns the exit status.
 
-    Raises PlaceError, StartFailed, CannotFollow, and what else keeps it from beginning.
+    Raises PlaceError, StartFailed, CannotFollow, and other errors if it can't begin.
     """
-    # (here, so that all else works where the package is not installed)
+    # (here, so that all else works if the package is not installed)
     from xqs.cluster.amqp import AmqpLog
     from xqs.cluster.amqp_link import quiet
 
@@ -72,7 +73,7 @@ async def run(address: LogAddress, place: str, options: Options, settings: Setti
 
 async def _answer_operators(node: Node, http: str | None, stack: contextlib.AsyncExitStack
                             ) -> None:
-    """Answers what operators and load balancers ask, from before the node follows the log."""
+    """A context that answers operators and load balancers, from before the node follows the log."""
     if node.options.snapshots:
         path = control.control_path(node.options.snapshots)
         asked = listening.listen_unix(str(path))
@@ -135,7 +136,8 @@ async def _take_clients(
 
 
 def _on_fault(loop: asyncio.AbstractEventLoop, context: dict[str, object]) -> None:
-    """Passes over what the package's own tasks raise as a connection ends, and tells the rest."""
+    """Ignores the errors of the package's own tasks when a connection ends, and reports all
+    others."""
     task = context.get("future") or context.get("task")
     if not (isinstance(task, asyncio.Future) and any(it in repr(task) for it in _THEIRS)):
         loop.default_exception_handler(context)
@@ -145,10 +147,10 @@ _THEIRS = ("aiormq", "aio_pika")
 
 
 def main(words: Sequence[str]) -> int:
-    """Runs `xqs node` with these words; gives the exit status.
+    """Runs `xqs node` with these words. Returns the exit status.
 
-    0 after a signal, and where all nodes end; 1 where it has to end, or can't begin; 2 for wrong
-    words. Raises XqError, ValueError and OSError where it can't begin.
+    0 after a signal, and if all nodes end; 1 if it must end, or can't begin; 2 for wrong words.
+    Raises XqError, ValueError and OSError if it can't begin.
     """
     before, after = mux.split_command(words)
     parser = _parser()
@@ -184,49 +186,49 @@ def _parser() -> argparse.ArgumentParser:
     parser = argparse.ArgumentParser(
         prog="xqs node", usage=USAGE, parents=[connection_options(bounded=False, kept=False)],
         description="Serves clients by servers that follow a replicated log of stores and drops: "
-        "all nodes of one log answer alike. docs/CLUSTER.md says how one is set up.")
+        "all nodes of one log give the same answers. docs/CLUSTER.md says how to set it up.")
     option = parser.add_argument
     option("--log", metavar="amqp://HOST/NAME[,..]",
            help=f"the brokers that keep the log, and its name; else ${VARIABLE}")
     option("--listen", metavar="unix:PATH|tcp:PORT", help="where clients connect")
     option("--name", default=socket.gethostname(), metavar="NAME",
-           help="how others call this node; each has another one (%(default)s)")
+           help="the name of this node, which no other node has (%(default)s)")
     option("--snapshots", type=pathlib.Path, metavar="DIR",
            help="the folder of this node's snapshots, from which it begins")
     option("--every", type=mux.positive, default=Options.every, metavar="N",
            help="stores and drops between two snapshots (%(default)s)")
     option("--servers", type=mux.positive, default=SERVERS, metavar="N",
-           help="servers of this node, so that so many reads run side by side, and that one takes "
-           "a snapshot while others go on (%(default)s)")
+           help="servers of this node: this number of reads run in parallel, and one server takes "
+           "a snapshot while the others go on (%(default)s)")
     option("--seconds", type=mux.duration, default=Options.seconds, metavar="S",
-           help="how long a request may hold a server, before that is ended and the request is "
-           "refused as xqs:SECONDS; and how long a store or drop waits while nothing comes from "
-           "the log, before its client's stream is ended, which says that it is unknown "
+           help="how long a request may occupy a server, before the server is ended and the "
+           "request refused as xqs:SECONDS; and how long a store or drop waits while nothing comes "
+           "from the log, before its client's stream is ended, since its outcome is unknown "
            "(%(default)g)")
     option("--memory", type=bounds.memory_of, metavar="SIZE", default=bounds.half_of_memory(),
            help="how much memory all servers of this node may have together, as 8G (half of this "
            f"machine's, {bounds.shown_size(bounds.half_of_memory())}; 0: any)")
     mux.add_kept(option)
     option("--fresh", action="store_true",
-           help="each read sees all that the log held when it was asked")
+           help="each read sees all that the log held when the read came")
     option("--program", metavar="TEXT",
-           help=f"what names the server's program, which nodes tell each other every {EVERY} "
-           "places; else the checksum of its bytes")
+           help="the name of the server's program, which nodes tell each other every "
+           f"{EVERY} places; by default the checksum of its bytes")
     option("--http", metavar="[HOST:]PORT",
-           help="where HTTP has /health, /metrics and /status of this node, which anybody may read "
-           "who can connect")
+           help="the port for HTTP with /health, /metrics and /status of this node, which anybody "
+           "can read who can connect")
     option("--plain", action="store_true",
-           help="take brokers of other machines without TLS too, on a network that is yours alone")
+           help="allow brokers on other machines without TLS, on a network that is yours alone")
     operating.add_options(parser)
     mux.add_client_limits(parser, DEFAULTS)
     return parser
 
 
 def snapshot_main(words: Sequence[str]) -> int:
-    """Runs `xqs snapshot` with these words; gives the exit status."""
+    """Runs `xqs snapshot` with these words. Returns the exit status."""
     parser = argparse.ArgumentParser(
         prog="xqs snapshot",
-        description="Has the node that runs with this folder take a snapshot now. With --end all "
+        description="Makes the node that runs with this folder take a snapshot now. With --end all "
         "nodes of its log take one, at the same place, and end: then the program can be changed.")
     parser.add_argument("snapshots", type=pathlib.Path, metavar="DIR")
     parser.add_argument("--end", action="store_true", help="all nodes take one, and end")

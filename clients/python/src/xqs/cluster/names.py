@@ -1,4 +1,4 @@
-"""Two nodes of one name: the one that was there first has the second refused."""
+"""Two nodes of one name: the first one makes the second one end."""
 
 from collections.abc import Callable
 
@@ -8,10 +8,11 @@ from xqs.cluster.seen import Seen
 
 
 class Names:
-    """What the node says of its name in the log, and hears of others that have it.
+    """What the node writes into the log about its name, and reads about it.
 
-    Each node greets as it begins. Whoever finds the greeting of another sender of its name behind
-    its own one tells that the name is taken; `refused` is called where that is told of this node.
+    Each node writes a greeting as it begins. A node that finds, after its own greeting, that of
+    another sender with its name writes that the name is taken. `refused` is called if that is about
+    this node.
     """
 
     def __init__(self, outbox: Outbox, refused: Callable[[], None]) -> None:
@@ -22,11 +23,11 @@ class Names:
         self._told: set[str] = set()
 
     def greet(self) -> None:
-        """Says in the log that this node begins."""
+        """Writes into the log that this node begins."""
         self._greeting = self._outbox.post(EntryKind.HELLO.value)
 
     def hear_hello(self, sender: str, seen: Seen) -> None:
-        """A node begins, by a server that has taken what it has seen."""
+        """Takes the greeting of a node; `seen` is what the server has taken before it."""
         own = self._outbox.sender
         is_later = self._greeting is not None and seen.last(own) >= self._greeting.number
         if sender == own or _name_of(sender) != self._name or not is_later or sender in self._told:
@@ -35,7 +36,7 @@ class Names:
         self._outbox.post(EntryKind.TAKEN.value + sender.encode())
 
     def hear_taken(self, sender: str) -> None:
-        """The name of a sender is taken."""
+        """Takes the message that the name of a sender is taken."""
         if sender == self._outbox.sender:
             self._refused()
 

@@ -1,4 +1,4 @@
-"""A node: clients before it, servers below it, and the log that they follow."""
+"""A node: its clients, its servers, and the log that they follow."""
 
 import asyncio
 import contextlib
@@ -25,25 +25,25 @@ from xqs.mux_peer import WANTING_STORE, Request
 from xqs.waiting import cancelled
 
 NEAR = 2.0
-"""Seconds in which a mark of a node comes back that has caught up."""
+"""Seconds in which a mark must come back for the node to have caught up."""
 CLAIM = 0.5
 """Seconds in which a node of the same name may refuse this one, before it takes clients."""
 ENDING, DRAINING = 4.5, 2.0
-"""Seconds for an end in order, and of these for what clients wait for."""
+"""Seconds for an orderly end, and the part of them for clients that wait."""
 COMING_UP, SHORT = 5.0, 0.02
-"""Seconds in which the server that is to take a snapshot may come as far as the others, and those
-between two looks."""
+"""Seconds for the server that takes a snapshot to catch up with the others, and those between two
+looks."""
 READS_OF_ONE = 16
-"""So many reads are at a server at once where there is one; else one, so that a query that never
-ends holds no other."""
+"""How many reads a node's only server may have at once. One of several servers has one, so that a
+query that never ends holds up no other."""
 
 
 @dataclass(frozen=True)
 class Options:
-    """What a node is given: its name, the command of its servers and the program that it runs, how
-    many there are, their files, the folder of snapshots and the places between two of them, how
-    long a request may hold a server and a write waits for the log, whether reads see all that the
-    log held, and the memory that each server may have."""
+    """The settings of a node: its name, the command of its servers and the program that it runs,
+    their number, their files, the folder of snapshots and the places between two of them, how long
+    a request may occupy a server and a write may wait for the log, whether reads see all that the
+    log held, and the memory of each server."""
 
     name: str
     command: Sequence[str]
@@ -60,8 +60,8 @@ class Options:
 class Node:
     """Serves clients by servers that follow one log.
 
-    `failed` is set where the node has to end by itself, and then `status` is its exit status; there
-    is nothing left to do then but to `stop`.
+    `failed` is set if the node must end by itself, and then `status` is its exit status; only
+    `stop` is left to do.
     """
 
     def __init__(self, options: Options, log: Log, settings: Settings,
@@ -101,10 +101,10 @@ class Node:
         return Follower(given, self.log, self.outbox, self.reads, self.say)
 
     async def start(self) -> None:
-        """Starts the servers, and follows the log up to what it held as this was called.
+        """Starts the servers, and follows the log up to its end at the time of this call.
 
-        Waits for the log where it can't be reached. Raises StartFailed, CannotFollow, NotOurs and
-        errors of a restore; `failed` is set where the log can't be followed so far.
+        Waits for the log if it can't be reached. Raises StartFailed, CannotFollow, NotOurs and
+        errors of a restore. `failed` is set if the log can't be followed so far.
         """
         await asyncio.gather(*(it.begin() for it in self.followers))
         self.snapshot_place = self.followers[0].state.place
@@ -121,13 +121,13 @@ class Node:
         await self._catch_up()
 
     def _on_end(self, task: "asyncio.Task[None]") -> None:
-        """A task of the node has ended; that it failed is nobody's to wait for."""
+        """A task of the node has ended; nobody waits for its error."""
         if not task.cancelled() and (error := task.exception()):
             self._fail(f"a fault of xqs node: {error!r}", 1)
 
     async def _catch_up(self) -> None:
-        """Waits until a mark of this node comes back soon, or the node fails: while one comes back
-        late, others have written on."""
+        """Waits until a mark of this node comes back soon, or the node fails: as long as marks come
+        back late, others have written more."""
         loop = asyncio.get_running_loop()
         begin = loop.time()
         while not self.failed.is_set() and self.follows():
@@ -142,7 +142,8 @@ class Node:
                 return
 
     async def _comes_back(self, mark: Pending) -> bool:
-        """Waits until a mark comes back, or is given up, or the node fails; whether it did."""
+        """Waits until a mark comes back or is given up, or the node fails. Returns whether it came
+        back."""
         failed = asyncio.create_task(self.failed.wait())
         await asyncio.wait((mark.done, failed), return_when=asyncio.FIRST_COMPLETED)
         failed.cancel()
@@ -158,7 +159,7 @@ class Node:
             follower.is_reporting = True
 
     async def _run(self, follower: Follower) -> None:
-        """Has a server follow the log; the node ends where it must not go on."""
+        """Makes a server follow the log; the node ends if it must not go on."""
         try:
             await follower.run()
             self._note_halt(follower)
@@ -177,7 +178,7 @@ class Node:
         self.reads.changed()
 
     async def _end_one(self, follower: Follower, why: str) -> None:
-        """Ends a server that must not go on; the others do."""
+        """Ends a server that must not go on; the others go on."""
         await follower.give_up()
         if all(it.is_ended for it in self.followers):
             self._fail(f"{self.options.name} {why}", 1)
@@ -185,7 +186,7 @@ class Node:
             self.say(f"{follower.name} {why}")
 
     def _note_halt(self, follower: Follower) -> None:
-        """A server halted: where it was the last one, nobody's write is answered any more."""
+        """A server halted: if it was the last one, no write is answered any more."""
         if not self.follows():
             self.outbox.give_up_all()
             if not self.is_caught_up and not follower.may_return:
@@ -199,7 +200,7 @@ class Node:
             self.outbox.give_up_all()
 
     async def _end_for_all(self, follower: Follower) -> None:
-        """The log says that all nodes end here: the first server takes a snapshot of it."""
+        """The log says that all nodes end here: the first server takes a snapshot."""
         self.say(f"{follower.name}: all nodes end here, at {follower.state}")
         is_first = not any(it.is_done for it in self.followers)
         follower.is_done = True
@@ -239,8 +240,8 @@ class Node:
         return not self.follows() or self.failed.is_set()
 
     async def _tried(self, request: Request) -> bytes | None:
-        """Asks the query of a store as a query first, once the client's own writes before it are
-        answered; the reply by which it is refused."""
+        """Asks the query of a store as a query first, once the client's earlier writes are
+        answered. Returns the reply if it is refused."""
         query = trials.query_of(request)
         if query is None or request.peer is None:
             return None
@@ -249,8 +250,8 @@ class Node:
 
     @staticmethod
     def _written(request: Request, done: "asyncio.Future[bytes]") -> None:
-        """Answers a write; one of which nobody knows what becomes of it ends its client's stream,
-        as the protocol has it of a frame that may have been carried out."""
+        """Answers a write. If its outcome is unknown, its client's stream ends, as the protocol
+        says for a frame that may have been carried out."""
         peer = request.peer
         assert peer is not None
         peer.settle(request)
@@ -262,7 +263,7 @@ class Node:
             peer.answer(request, done.result())
 
     async def _read(self, request: Request) -> None:
-        """Hands a read to a server, once this client's own writes before it are answered."""
+        """Passes a read to a server, once this client's earlier writes are answered."""
         assert request.peer is not None
         await request.peer.until_written()
         if self.options.is_fresh and not await self._has_all():
@@ -271,7 +272,8 @@ class Node:
         await self.reads.hand_over(request)
 
     async def _has_all(self) -> bool:
-        """Waits until a server has carried out all that the log holds now; whether one could."""
+        """Waits until a server has carried out all that the log holds now. Returns whether one
+        could."""
         if not self.follows():
             return False
         try:
@@ -281,13 +283,14 @@ class Node:
         return True
 
     async def end_all(self) -> str:
-        """Has all nodes that follow the log end at the same place; what is to be said of it."""
+        """Makes all nodes that follow the log end at the same place. Returns a message."""
         entry = EntryKind.END.value + self.options.program.encode()
         await (await self.outbox.put(entry)).done
         return "all nodes take a snapshot and end"
 
     async def skip(self, place: int) -> str:
-        """Has all nodes skip the place at which a server of this one stepped aside."""
+        """Makes all nodes skip the place at which a server of this one stepped aside. Returns a
+        message."""
         held = [it for it in self.followers if it.may_return and it.state.place + 1 == place]
         if not held:
             raise XqError(f"no server of this node has stepped aside at place {place:,}")
@@ -296,13 +299,13 @@ class Node:
             await asyncio.sleep(0.1)
             if not any(it.may_return and it.state.place + 1 == place for it in held):
                 return f"all nodes skip place {place:,}"
-        raise XqError("the log has not brought it back in 10 seconds: it may be skipped later")
+        raise XqError("the log has not confirmed it in 10 seconds: the place may be skipped later")
 
     async def take_snapshot(self) -> str:
-        """Takes a snapshot of all that is carried out so far, or later; what is to be said of it.
+        """Takes a snapshot of all that is carried out so far, or later. Returns a message.
 
-        It is taken by a server that is not the first one, where there is another, once that has
-        come as far: who answers writes meanwhile is then never one that has to come up first.
+        A server other than the first takes it, if there is one, once it has caught up. So the
+        server that answers writes meanwhile never has to catch up first.
         """
         able = [it for it in self.followers if it.is_ready and not it.halted]
         if not able:
@@ -321,7 +324,7 @@ class Node:
 
     @staticmethod
     def _for_snapshot(able: Sequence[Follower]) -> Follower:
-        """The server for a snapshot: one at a query would have it wait for that."""
+        """The server for a snapshot, preferably one that isn't working on a query."""
         idle = [it for it in able if not it.replica.reads] or able
         return min(idle, key=lambda it: it.state.place)
 
@@ -331,9 +334,10 @@ class Node:
         self.snapshot_time = time.time()
 
     async def stop(self) -> None:
-        """Answers the frames that were read, ends the clients and then the servers in order.
+        """Answers the frames that were read, disconnects the clients, and ends the servers in
+        order.
 
-        What takes too long is ended at once: a node ends within some seconds, whatever holds it.
+        It ends at once what takes too long, so a node always ends within some seconds.
         """
         until = asyncio.get_running_loop().time() + ENDING
         await self._drain()
@@ -341,11 +345,11 @@ class Node:
             async with asyncio.timeout_at(until):
                 await self._end_in_order()
         except TimeoutError:
-            self.say("the servers are ended at once, since one is held")
+            self.say("the servers are ended at once, since one is busy")
             await self.abandon()
 
     async def _drain(self) -> None:
-        """Answers the frames that were read, as far as that is soon."""
+        """Answers the frames that were read, if that doesn't take long."""
         draining = asyncio.create_task(self._clients.drain())
         await asyncio.wait((draining,), timeout=DRAINING)
         if not draining.done():
@@ -356,7 +360,7 @@ class Node:
 
     async def _end_in_order(self) -> None:
         async with contextlib.AsyncExitStack() as stack:
-            # (nobody is to be stopped within an entry)
+            # (nobody may be stopped within an entry)
             for follower in self.followers:
                 await stack.enter_async_context(follower.between)
             await cancelled(*self._tasks)
@@ -373,7 +377,8 @@ class Node:
             self.say(f"{follower.name}: {error}")
 
     async def _take_last_snapshot(self) -> None:
-        """At an end in order, where the documents are in memory and changed since the last one."""
+        """Takes a snapshot at an orderly end, if the documents are in memory and have changed since
+        the last one."""
         place = max(it.state.place for it in self.followers)
         if self.options.snapshots and not self.options.file and place > self.snapshot_place:
             try:

@@ -1,4 +1,4 @@
-"""What an operator asks by `xqs node --status`, `--skip` and `--copies`."""
+"""An operator's questions: `xqs node --status`, `--skip` and `--copies`."""
 
 import argparse
 import sys
@@ -11,30 +11,30 @@ from xqs.errors import XqError
 
 
 def add_options(parser: argparse.ArgumentParser) -> None:
-    """Adds the options, each of which has no node begin."""
+    """Adds the options; with any of them no node begins."""
     group = parser.add_argument_group("questions, which start no node").add_argument
     group("--status", action="store_true",
-          help="how the node does that runs with the folder of --snapshots; the exit status is 0 "
-          "where it follows the log, and else 1")
+          help="the status of the node that runs with the folder of --snapshots; the exit status "
+          "is 0 if it follows the log, else 1")
     group("--json", action="store_true", help="with --status: one line of JSON")
     group("--copies", action="store_true",
-          help="which brokers of --log have a copy of it; the exit status is 0 where all have")
+          help="which brokers of --log have a copy of it; the exit status is 0 if all have")
     group("--skip", type=int, metavar="PLACE",
-          help="has all nodes skip the store or drop of that place, at which the node of "
-          "--snapshots stepped aside: it is carried out nowhere, for good")
+          help="makes all nodes skip the store or drop of that place, at which the node of "
+          "--snapshots stepped aside: no node will ever carry it out")
 
 
 def asks(given: argparse.Namespace) -> bool:
-    """Whether the words ask something, and want no node."""
+    """Whether the words ask something, and begin no node."""
     return given.status or given.copies or given.skip is not None
 
 
 def answer(given: argparse.Namespace, address: LogAddress | None) -> int:
-    """Answers what the words ask; the exit status. Raises XqError."""
+    """Answers the question in the words. Returns the exit status. Raises XqError."""
     if address is not None:
         return ending.run(_copies(address), "node")
     if given.snapshots is None:
-        raise ValueError("which node is meant says its folder: give --snapshots DIR")
+        raise ValueError("the folder says which node is meant: give --snapshots DIR")
     if given.skip is not None:
         return _skip(given.snapshots, given.skip)
     return _status(given.snapshots, given.json)
@@ -59,7 +59,7 @@ def _status(folder: Path, is_json: bool) -> int:
 
 
 async def _copies(address: LogAddress) -> int:
-    # (here, so that all else works where the package is not installed)
+    # (here, so that all else works if the package is not installed)
     from xqs.cluster.amqp import AmqpLog
     from xqs.cluster.amqp_link import quiet
 

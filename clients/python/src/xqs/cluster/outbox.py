@@ -11,13 +11,13 @@ from xqs.cluster.steps import passed
 from xqs.errors import XqError
 
 IN_FLIGHT = 1
-"""So many messages may wait for their confirmations; entries that come meanwhile share the next."""
+"""How many messages may wait for their confirmations; later entries share the next message."""
 HELD_BYTES = 64 << 20
-"""So many bytes of entries are on their way at once; clients with more of them wait."""
+"""How many bytes of entries may be on their way; clients with more of them wait."""
 SWEEP = 0.1
-"""Seconds between two looks at what has waited too long."""
+"""Seconds between two looks for what has waited too long."""
 CONFIRMATION = 6.0
-"""Seconds for which a confirmation is awaited before another broker is tried."""
+"""Seconds to wait for a confirmation before another broker is tried."""
 AGAIN = 0.5
 """Seconds before a message is sent again that the log did not take."""
 
@@ -29,8 +29,8 @@ class Unknown(XqError):
 class Pending:
     """An entry on its way.
 
-    `done` gives, once it is carried out here, the status and text of its reply, no bytes of a mark;
-    or Unknown.
+    `done` gives the status and text of its reply once it is carried out here (no bytes for a mark),
+    or raises Unknown.
     """
 
     __slots__ = ("entry", "number", "until", "done")
@@ -44,19 +44,19 @@ class Pending:
 
 
 def _look_at(done: "asyncio.Future[bytes]") -> None:
-    """Looks at what became of an entry, so that nobody is told that nobody did."""
+    """Looks at the result of an entry, so that asyncio doesn't complain."""
     if not done.cancelled():
         done.exception()
 
 
 class Outbox:
-    """The entries of one sender, which are numbered from 1 and sent in that order.
+    """The entries of one sender, numbered from 1 and sent in that order.
 
-    They are sent again after each loss of the connection and each gap that is seen in the log, and
-    whoever follows leaves out what comes twice. An entry is given up when it was not answered for
-    `seconds`, and the log brought nothing in that time that servers of this node had to carry out,
-    as they say by `stir` and `busy`: its client is told that it is unknown, and where it is sent
-    once more, a mark stands in its place.
+    They are sent again after each loss of the connection and each gap in the log; followers leave
+    out repeated ones. An entry is given up if it is not answered for `seconds`, and if in that time
+    the log brought nothing that servers of this node had to carry out, which they report by `stir`
+    and `busy`. Its client gets the error Unknown, and if the entry is sent once more, a mark takes
+    its place.
     """
 
     def __init__(self, sender: str, log: Log, seconds: float) -> None:
@@ -79,7 +79,8 @@ class Outbox:
         return len(self._pending)
 
     async def put(self, entry: bytes) -> Pending:
-        """Takes an entry once there is room for it, those that wait in the order of their calls."""
+        """Takes an entry once there is room for it; those that wait are taken in the order of their
+        calls."""
         async with self._turn:
             while self._bytes and self._bytes + len(entry) > HELD_BYTES:
                 self._has_room.clear()
@@ -97,22 +98,22 @@ class Outbox:
         return pending
 
     def lag(self) -> float:
-        """For how many seconds the oldest entry that was put has not come back."""
+        """How many seconds ago the oldest entry was added that has not come back."""
         for pending in self._pending.values():
             return max(0.0, time.monotonic() - (pending.until - self._seconds))
         return 0.0
 
     def mark(self) -> Pending:
-        """A mark behind all entries that were put so far; one that was not sent yet is shared."""
+        """A mark after all entries so far; one that was not sent yet is shared."""
         last = self._pending.get(self._next - 1)
         if last and last.entry == MARK and last.number >= self._to_send and not last.done.done():
             return last
         return self.post(MARK)
 
     def came_back(self, number: int, reply: bytes) -> None:
-        """An entry of this sender was carried out by a server of this node, with this reply.
+        """A server of this node carried out an entry of this sender, with this reply.
 
-        Where several servers follow the log, the first one answers.
+        If several servers follow the log, the first one answers.
         """
         while self._pending and next(iter(self._pending)) <= number:
             _, pending = self._pending.popitem(last=False)
@@ -129,12 +130,12 @@ class Outbox:
         self._has_room.set()
 
     def send_again(self) -> None:
-        """Has all entries that have not come back sent once more."""
+        """Sends all entries once more that have not come back."""
         self._to_send = next(iter(self._pending), self._next)
         self._work.set()
 
     async def run(self) -> None:
-        """Sends what is to be sent, as long as this runs."""
+        """Sends messages for as long as this runs."""
         sweep = asyncio.create_task(self._sweep())
         try:
             while True:
@@ -146,7 +147,7 @@ class Outbox:
             sweep.cancel()
 
     def _start_send(self) -> bool:
-        """Begins to send the next message; False where there is none, or no log."""
+        """Begins to send the next message; False if there is none, or no log."""
         self._to_send = max(self._to_send, next(iter(self._pending), self._next))
         if self._to_send >= self._next or not self._log.is_up:
             self._work.clear()
@@ -160,7 +161,7 @@ class Outbox:
         return True
 
     async def _send(self, batch: Batch) -> None:
-        """Sends a message; where that fails, it is sent again when the log takes messages."""
+        """Sends a message; if that fails, sends it again when the log takes messages."""
         try:
             passed("published")
             await within(CONFIRMATION, self._log.publish(encode(batch)))
@@ -173,12 +174,13 @@ class Outbox:
             self._free.release()
 
     def _send_again_if_up(self) -> None:
-        """The log refused a message, and may still be there: nothing else sends it again then."""
+        """The log refused a message although it can be reached: nothing else would send it
+        again."""
         if self._log.is_up:
             self.send_again()
 
     def stir(self) -> None:
-        """Something of the log was carried out: the wait for what is behind it begins anew."""
+        """Something of the log was carried out: the wait for what comes after it begins anew."""
         self._stirred = time.monotonic()
 
     async def _sweep(self) -> None:
@@ -194,13 +196,13 @@ class Outbox:
             self._give_up(self._due.popleft())
 
     def give_up_all(self) -> None:
-        """Tells all that wait that what becomes of their entries is unknown."""
+        """Tells all waiting clients that the outcome of their entries is unknown."""
         while self._due:
             self._give_up(self._due.popleft())
 
     def _give_up(self, pending: Pending) -> None:
         if not pending.done.done():
-            # (what the node says of itself is told late rather than never)
+            # (the node's own entries are sent late rather than never)
             if changes(pending.entry) or pending.entry[:1] == EntryKind.END:
                 self._make_room(len(pending.entry) - len(MARK))
                 pending.entry = MARK

@@ -1,4 +1,4 @@
-"""Which program a server's command runs: the one whose bytes answer, whatever stands before it."""
+"""Which program a server's command runs: the one whose process answers, behind any scripts."""
 
 import asyncio
 import hashlib
@@ -11,9 +11,9 @@ from xqs.errors import XqError
 from xqs.mux_backend import Backend
 
 SHOWN = 16
-"""So many digits of a checksum name a program."""
+"""How many digits of a checksum name a program."""
 _INTERPRETERS = re.compile(r"(python|perl|ruby|node|bash|dash|sh|busybox)[0-9.]*")
-"""Programs of which the bytes say nothing: the file that they run does."""
+"""Interpreters, whose own bytes say nothing: the file that they run counts."""
 
 
 class NoProgram(XqError):
@@ -21,7 +21,7 @@ class NoProgram(XqError):
 
 
 async def name_of_running(command: Sequence[str]) -> str:
-    """The checksum of the program that answers where the command is run, behind scripts and other
+    """The checksum of the program that answers when the command runs, behind scripts and other
     programs that start it. Raises StartFailed, NoProgram."""
     backend = await Backend.start(command, lambda request, reply: None, None)
     try:
@@ -32,19 +32,19 @@ async def name_of_running(command: Sequence[str]) -> str:
 
 
 def name_of_process(process: int) -> str:
-    """The checksum of what a process runs. NoProgram."""
+    """The checksum of the program of a process. Raises NoProgram."""
     try:
         digest = hashlib.sha256(Path(f"/proc/{process}/exe").read_bytes())
         if script := _script(process):
             digest.update(script.read_bytes())
     except OSError as error:
-        raise NoProgram(f"the server's program can't be read ({error}): name it by --program"
+        raise NoProgram(f"the server's program can't be read ({error}): give its name by --program"
                         ) from error
     return f"checksum {digest.hexdigest()[:SHOWN]}"
 
 
 def _last_child(process: int) -> int:
-    """The process at the end of the line that a process started."""
+    """The last process in the chain that a process started."""
     while children := _children(process):
         process = children[-1]
     return process
@@ -71,7 +71,7 @@ def _parent(process: int) -> int:
 
 
 def _script(process: int) -> Path | None:
-    """The file that an interpreter runs; None where the process is none."""
+    """The file that an interpreter runs; None if the process is none."""
     name = Path(os.readlink(f"/proc/{process}/exe")).name
     if not _INTERPRETERS.fullmatch(name):
         return None

@@ -14,11 +14,11 @@ if TYPE_CHECKING:
 
 
 class Reads(Reading):
-    """Hands each read to a server that is free and far enough.
+    """Passes each read to a server that is free and far enough in the log.
 
-    `floor` is the furthest place that a read of this node saw or may be about to see, or one of
-    its writes was answered at: a later read sees all up to it, whichever server answers. An entry
-    counts that stands in a server's line before a read.
+    `floor` is the furthest place that a read of this node saw or may see, or at which one of its
+    writes was answered: a later read sees all up to it, on any server. An entry counts if it is in
+    a server's queue before the read.
     """
 
     def __init__(self, unread: int, depth: int) -> None:
@@ -28,8 +28,8 @@ class Reads(Reading):
 
     @property
     def floor(self) -> int:
-        """The place that a read has to see."""
-        # (what stands in the line of a server that halted was not carried out)
+        """The place that a read must see."""
+        # (a server that halted did not carry out what is in its queue)
         promised = [it.promised for it in self.followers if not it.halted]
         return max(self._answered, *promised, 0)
 
@@ -38,7 +38,7 @@ class Reads(Reading):
         return [it.replica for it in self.followers if it.is_ready and it.replica.runs]
 
     def is_open(self, replica: Replica) -> bool:
-        """Whether a server is as far as each read has to see."""
+        """Whether a server is as far as each read must see."""
         return self._of(replica).line >= self.floor
 
     def may_read(self, replica: Replica, request: Request, count: int) -> bool:
@@ -46,11 +46,11 @@ class Reads(Reading):
         return not replica.is_held
 
     def place_of(self, replica: Replica) -> int:
-        """The place of the last entry in the server's line."""
+        """The place of the last entry in the server's queue."""
         return self._of(replica).line
 
     def note_given(self, replica: Replica) -> None:
-        """A read is about to stand in the line of this server."""
+        """Called before a read enters the queue of this server."""
         follower = self._of(replica)
         follower.promised = max(follower.promised, follower.line)
 
@@ -58,30 +58,30 @@ class Reads(Reading):
         return next(it for it in self.followers if it.replica is replica)
 
     def changed(self) -> None:
-        """A server has reached a place, answered a request, begun, or ended."""
+        """Called when a server has reached a place, answered a request, begun, or ended."""
         if self.waiting:
             self.dispatch()
 
     def dispatch(self) -> None:
-        """Gives those that wait the servers that are free, in their order; all are answered as
-        wanting the store where no server is left."""
+        """Assigns free servers to the waiting reads, in order; if no server is left, all get status
+        2, `store`."""
         super().dispatch()
         if self.waiting and not self._can_any_come():
             self.refuse_waiting(WANTING_STORE)
 
     def _can_any_come(self) -> bool:
-        """Whether a server can take a read that waits, now or later."""
+        """Whether a server can take a waiting read, now or later."""
         floor = self.floor
         return any(not it.is_ended and (not it.halted or it.is_ready and it.line >= floor)
                    for it in self.followers)
 
     def raise_floor(self, place: int) -> None:
-        """A read has seen that place, or a write of this node is about to be answered at it."""
+        """A read has seen that place, or a write of this node will be answered at it."""
         self._answered = max(self._answered, place)
 
     def on_reply(self, follower: "Follower", replica: Replica, request: Request,
                  reply: bytes) -> None:
-        """A server has answered a request, with the documents of the place that it has carried
+        """Takes a server's reply to a request, with the documents of the place that it has carried
         out."""
         if not isinstance(request, Own):
             request.place = follower.carried

@@ -1,4 +1,4 @@
-"""Requests that a node itself sends to one of its servers: entries of the log, and a client's."""
+"""Requests of a node itself to one of its servers: entries of the log, and those of a client."""
 
 import asyncio
 import dataclasses
@@ -24,9 +24,9 @@ class Entry(Own):
 
 
 async def with_client(replica: Replica, work: Callable[[Client], T]) -> T:
-    """Has a thread do work by a client of the server, beside what others ask of it.
+    """Runs work in a thread, with a client of the server, beside the server's other requests.
 
-    Errors are those of the work; Closed where the server ends meanwhile.
+    Raises the errors of the work; Closed if the server ends meanwhile.
     """
     ours, theirs = socket.socketpair()
     reader, writer = await asyncio.open_connection(sock=ours)

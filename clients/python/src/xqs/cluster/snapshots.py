@@ -1,7 +1,7 @@
 """Snapshots: the documents at one place of the log, with all that is needed to go on from there.
 
 A file `OFFSET.snapshot` has the line `xqs snapshot 1`, the line `state BYTES SHA256`, the state of
-a follower in so many bytes, a line feed, and then a backup as `xqs backup` writes it, with the
+a follower in BYTES bytes, a line feed, and then a backup in the form of `xqs backup`, with the
 documents of temporary addresses too.
 """
 
@@ -22,7 +22,7 @@ from xqs.errors import XqError
 
 FORM = b"xqs snapshot 1\n"
 KEPT = 3
-"""So many snapshots stay in a folder, the newest."""
+"""How many snapshots stay in a folder, the newest ones."""
 
 _NAME = re.compile(r"(\d{16})\.snapshot")
 _HEAD = re.compile(rb"state (\d{1,12}) ([0-9a-f]{64})\n")
@@ -38,22 +38,23 @@ class WrongSnapshot(XqError):
 
 @dataclass(frozen=True)
 class Snapshot:
-    """A snapshot that is whole: its file, and the state that it was taken in."""
+    """A whole snapshot: its file, and the state in which it was taken."""
 
     path: Path
     state: State
 
 
 def path_of(folder: Path, offset: int) -> Path:
-    """The file of the snapshot after the message of that offset."""
+    """The file of the snapshot after the message with that offset."""
     return folder / f"{offset + 1:016}.snapshot"
 
 
 def write(client: Client, state: State, folder: Path) -> tuple[Path, int]:
-    """Takes a snapshot of a server that nobody else changes; its file, and how many documents.
+    """Takes a snapshot of a server that nobody else changes. Returns its file, and the number of
+    documents.
 
-    It is written beside, read back, compared with the documents, and only then named.
-    WrongSnapshot where they differ.
+    The file is written, read back, compared with the documents, and only then gets its name. Raises
+    WrongSnapshot if they differ.
     """
     path = path_of(folder, state.offset)
     part = path.with_name(f"{path.name}.{os.getpid()}.part")
@@ -78,7 +79,7 @@ def write(client: Client, state: State, folder: Path) -> tuple[Path, int]:
 
 
 def write_to(client: Client, state: State, file: BinaryIO) -> int:
-    """Writes a snapshot; how many documents it has."""
+    """Writes a snapshot. Returns the number of documents."""
     text = state.to_json().encode()
     digest = hashlib.sha256(text).hexdigest()
     file.write(FORM + f"state {len(text)} {digest}\n".encode() + text + b"\n")
@@ -86,7 +87,7 @@ def write_to(client: Client, state: State, file: BinaryIO) -> int:
 
 
 def sync_folder(folder: Path) -> None:
-    """Has the names of a folder's files last."""
+    """Syncs the names in a folder to the disk."""
     number = os.open(folder, os.O_RDONLY)
     try:
         os.fsync(number)
@@ -95,15 +96,16 @@ def sync_folder(folder: Path) -> None:
 
 
 def read_state(file: BinaryIO) -> State:
-    """The state at the head of a snapshot; the file then stands at its backup. NoSnapshot."""
+    """The state at the head of a snapshot; the file then stands at its backup. Raises
+    NoSnapshot."""
     if file.readline() != FORM:
-        raise NoSnapshot("the file is no snapshot of this form")
+        raise NoSnapshot("the file is not a snapshot")
     head = _HEAD.fullmatch(file.readline())
     if head is None:
         raise NoSnapshot("the snapshot has no state")
     text = file.read(int(head[1]))
     if hashlib.sha256(text).hexdigest() != head[2].decode() or file.read(1) != b"\n":
-        raise NoSnapshot("the snapshot's state is cut or was changed")
+        raise NoSnapshot("the snapshot's state is cut short or was changed")
     try:
         return State.of_json(text.decode())
     except NoState as error:
@@ -111,7 +113,8 @@ def read_state(file: BinaryIO) -> State:
 
 
 def judge(path: Path) -> Snapshot:
-    """The snapshot of a file, each of its documents judged by its digest. NoSnapshot, OSError."""
+    """The snapshot in a file, with each document checked by its digest. Raises NoSnapshot,
+    OSError."""
     with open(path, "rb") as file:
         state = read_state(file)
         try:
@@ -124,8 +127,8 @@ def judge(path: Path) -> Snapshot:
 
 def newest(folder: Path, say: Callable[[str], None],
            fits: Callable[[State], bool] = lambda state: True) -> Snapshot | None:
-    """The newest snapshot of a folder that is whole and fits; each newer one that is not whole is
-    told."""
+    """The newest snapshot of a folder that is whole and fits; reports each newer one that is not
+    whole."""
     for path in reversed(files(folder)):
         try:
             found = judge(path)
@@ -143,9 +146,10 @@ def files(folder: Path) -> list[Path]:
 
 
 def restore(client: Client, snapshot: Snapshot) -> int:
-    """Stores the documents of a snapshot in a server that has none, and reads each back; how many.
+    """Stores the documents of a snapshot in a server that has none, and reads each back. Returns
+    their number.
 
-    NoBackup; ValueError where the server has documents; Refused and Wanting of the server.
+    Raises NoBackup; ValueError if the server has documents; Refused and Wanting.
     """
     with open(snapshot.path, "rb") as file:
         read_state(file)
@@ -153,6 +157,6 @@ def restore(client: Client, snapshot: Snapshot) -> int:
 
 
 def remove_old(folder: Path, kept: int = KEPT) -> None:
-    """Removes all snapshots but the newest ones, and what a crash left of others."""
+    """Removes all snapshots except the newest ones, and unfinished files that a crash left."""
     for path in [*files(folder)[:-kept], *folder.glob("*.snapshot.*.part")]:
         path.unlink(missing_ok=True)

@@ -1,4 +1,4 @@
-"""How far a server has followed the log, and what has to be known to go on from there."""
+"""How far a server has followed the log, and what it needs to go on from there."""
 
 import json
 from dataclasses import dataclass, field
@@ -14,13 +14,13 @@ class NoState(XqError, ValueError):
 
 @dataclass
 class State:
-    """A place of the log, and what a server that has carried out all up to it needs for the rest.
+    """A place of the log, and what a server at that place needs to go on.
 
-    `offset` is that of the last message which was taken, -1 before the first; `place` counts the
-    stores and drops that were carried out since the log's beginning, and `total` is their sum.
-    `reports` has the last sums that were reported, by place; `program` carried all this out.
-    `identity` names the log, and `digest` tells its message at the offset from another one there;
-    both are empty where they are not known. `skips` are the places that were not carried out.
+    `offset` is that of the last message that was taken, -1 before the first. `place` counts the
+    stores and drops carried out since the log's beginning, and `total` is their sum. `reports` has
+    the last reported sums, by place; `program` carried all this out. `identity` names the log, and
+    `digest` tells its message at the offset from any other; both are empty if unknown. `skips` are
+    the places that were skipped.
     """
 
     log: str
@@ -45,12 +45,12 @@ class State:
 
     @staticmethod
     def of_json(text: str) -> "State":
-        """The state of such a text; NoState."""
+        """The state in such a text. Raises NoState."""
         try:
             fields = json.loads(text)
             seen = {str(name): int(number) for name, number in fields["seen"].items()}
             reports = {int(place): str(total) for place, total in fields["reports"].items()}
-            # (what a state of an earlier version does not have is not known)
+            # (fields that a state of an earlier version lacks are unknown)
             skips = tuple(int(place) for place in fields.get("skips", ()))
             return State(str(fields["log"]), str(fields["program"]), int(fields["offset"]),
                          int(fields["place"]), str(fields["sum"]), Seen(seen), reports,

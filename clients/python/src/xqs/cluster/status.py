@@ -1,4 +1,4 @@
-"""How a node does: its state and its figures, as lines, as JSON and for Prometheus."""
+"""The status of a node: its state and figures, as lines, as JSON and for Prometheus."""
 
 import json
 import time
@@ -10,14 +10,14 @@ if TYPE_CHECKING:
     from xqs.cluster.node import Node
 
 BEHIND = 15.0
-"""Seconds after which an entry that has not come back says that the node is behind."""
+"""Seconds after which an entry that has not come back means that the node is behind."""
 FOLLOWS = "follows"
 STATES = (FOLLOWS, "catches up", "behind", "no log", "halted", "ends")
 
 
 @dataclass(frozen=True)
 class ServerStatus:
-    """One server of a node: its name, the place that it stands at, and what it does."""
+    """One server of a node: its name, its place, and its state."""
 
     name: str
     place: int
@@ -28,8 +28,8 @@ class ServerStatus:
 class Status:
     """A node at one moment.
 
-    `lag` is for how many seconds an entry of this node has not come back from the log, `end` the
-    last offset that is known of it; `copies` are the brokers that have the log, of `brokers`.
+    `lag` is how many seconds an entry of this node has not come back from the log, `end` the last
+    known offset of the log. `copies` is how many of the `brokers` have the log.
     """
 
     node: str
@@ -49,7 +49,7 @@ class Status:
 
     @property
     def is_following(self) -> bool:
-        """Whether clients are well served here."""
+        """Whether the node serves clients well."""
         return self.state == FOLLOWS
 
     def to_json(self) -> str:
@@ -58,7 +58,7 @@ class Status:
 
     @staticmethod
     def of_json(text: str) -> "Status":
-        """The status of such a line. ValueError."""
+        """The status in such a line. Raises ValueError."""
         try:
             fields = json.loads(text)
             servers = [ServerStatus(**it) for it in fields.pop("servers")]
@@ -84,11 +84,11 @@ class Status:
     def metrics(self) -> str:
         """The figures in the format that Prometheus reads."""
         figures: list[tuple[str, str, float]] = [
-            ("follows", "1 where clients are well served here", float(self.is_following)),
+            ("follows", "1 if the node serves clients well", float(self.is_following)),
             ("place", "stores and drops carried out since the log's beginning", self.place),
             ("offset", "offset of the last message that was taken", self.offset),
             ("end_offset", "last offset of the log that is known here", self.end),
-            ("lag_seconds", "for how long an entry of this node has not come back", self.lag),
+            ("lag_seconds", "how long an entry of this node has not come back", self.lag),
             ("copies", "brokers that have a copy of the log", self.copies),
             ("brokers", "brokers that this node was given", self.brokers),
             ("snapshot_place", "place of the last snapshot", self.snapshot_place),
@@ -108,7 +108,7 @@ class Status:
 
 
 def status_of(node: "Node") -> Status:
-    """How a node does now."""
+    """The current status of a node."""
     furthest = max(node.followers, key=lambda it: it.state.place)
     copies = list(node.copies.values())
     return Status(

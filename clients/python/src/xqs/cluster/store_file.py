@@ -1,8 +1,8 @@
-"""The file of a node's documents, and beside it the place of the log that it stands at.
+"""The file of a node's documents, and beside it a note of its place in the log.
 
-`X.db.node` says whether a server runs on the file, or has ended in order, and then how far it had
-followed the log and which size and sum the file has. A file that is not as it says, since a server
-was killed or something else wrote there, holds nobody knows which place: the node begins anew.
+`X.db.node` says whether a server runs on the file, or has ended in order. After an orderly end it
+says how far the server had followed the log, and the size and sum of the file. If the file differs,
+since a server was killed or something else wrote there, its place is unknown: the node begins anew.
 """
 
 import hashlib
@@ -17,7 +17,7 @@ from xqs.cluster.steps import passed
 from xqs.errors import XqError
 
 _WITH_IT = ("", "-wal")
-"""The file and its log, which belong together."""
+"""The file and its database log, which belong together."""
 RUNNING = {"is": "running"}
 
 
@@ -33,27 +33,27 @@ class StoreFile:
 
     @property
     def note(self) -> Path:
-        """The file beside it, which says where it stands."""
+        """The note beside the file."""
         return self.path.with_name(self.path.name + ".node")
 
     def begin(self) -> State | None:
-        """The state from which a server on the file goes on; None where it begins without
-        documents. From then on the file counts as one on which a server runs.
+        """The state from which a server on the file goes on; None if it begins without documents.
+        From then on the note says that a server runs on the file.
 
-        What is there of a server that did not end in order is set aside, as `X.db.left`. NotOurs
-        where a file is there that never followed a log.
+        The files of a server that did not end in order are renamed to `X.db.left`. Raises NotOurs
+        if there is a file that never followed a log.
         """
         state = self._ended_state()
         if state is None:
             if self.path.exists() and not self.note.exists():
-                raise NotOurs(f"{self.path} is there, and never followed a log: give another "
-                              "--file, and load what it has into the node")
+                raise NotOurs(f"{self.path} exists, but never followed a log: give another "
+                              "--file, and load its documents into the node")
             self._set_aside()
         self._write_note(RUNNING)
         return state
 
     def end(self, state: State) -> None:
-        """Notes that the server ended in order, at this state."""
+        """Notes that the server ended in order, in this state."""
         passed("file ended")
         self._write_note({"is": "ended", "state": state.to_json(), "size": self._size(),
                           "sum": self._sum()})

@@ -1,8 +1,8 @@
-"""Stores whose query is asked as a query first: what is in the log is to end, and soon.
+"""Stores whose query is first asked as a query, so that what enters the log ends, and soon.
 
-All nodes carry out what the log holds, so a store whose query holds a server, or wants more memory
-than it may have, would hold them all. A text of constructors alone takes no longer than its length
-says, and needs no trial.
+All nodes carry out what the log holds. So a store whose query occupies a server, or takes more
+memory than it has, would stop them all. A text of constructors alone takes time that grows only
+with its length, and needs no trial.
 """
 
 import re
@@ -20,14 +20,14 @@ _PLAIN = re.compile(
     re.VERBOSE)
 _TAG = 4
 _BY_ITS_PLACE = (b"XPST0003", b"prof:DEPTH")
-"""Refusals that the words around a query may have brought about."""
+"""Refusals that may come from the words around a query."""
 
 Asking = Callable[[bytes], Awaitable[bytes]]
 """Gives the status and text of a server's reply to a kind and body."""
 
 
 def query_of(request: Request) -> bytes | None:
-    """The query of a store that wants a trial; None where it needs none."""
+    """The query of a store that needs a trial; None if it needs none."""
     body = request.payload[1:]
     if request.kind != Kind.STORE or not body:
         return None
@@ -36,7 +36,7 @@ def query_of(request: Request) -> bytes | None:
 
 
 def is_plain(text: bytes) -> bool:
-    """Whether a query's text has constructors, strings and nothing else."""
+    """Whether a query's text has only constructors and strings."""
     try:
         return _PLAIN.fullmatch(text.decode()) is not None
     except UnicodeDecodeError:
@@ -44,9 +44,10 @@ def is_plain(text: bytes) -> bool:
 
 
 async def refusal_of(query: bytes, ask: Asking) -> bytes | None:
-    """The reply by which a store is refused, since its query did not end; None where it did.
+    """The reply that refuses a store, since its query did not end; None if it did.
 
-    What is refused for a fault of its own has ended too: it is for the log to say at which place.
+    A query that is refused for a fault of its own has ended too: at which place that happens is
+    decided in the log.
     """
     reply = await ask(_counted(query))
     if reply[:1] == bytes([Status.REFUSED]) and reply[1:] in _BY_ITS_PLACE:
@@ -57,7 +58,8 @@ async def refusal_of(query: bytes, ask: Asking) -> bytes | None:
 
 
 def _counted(query: bytes) -> bytes:
-    """The request for the query's value, with a short reply where there is room for its words."""
+    """The request for the query's value, with a short reply if there is room for the words of
+    that."""
     counted = b"count(( " + query + b" ))"
     text = counted if len(counted) + _TAG + 1 <= MAX_REQUEST else query
     return Kind.QUERY.value + text

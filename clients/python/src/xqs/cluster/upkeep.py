@@ -1,4 +1,4 @@
-"""What is done to a server between two messages: snapshots of it, and another one in its place."""
+"""What happens to a server between two messages: a snapshot, or its replacement."""
 
 import asyncio
 from pathlib import Path
@@ -14,11 +14,12 @@ from xqs.replica import Replica, State
 FILE_FRAMES = FRAME_LIMIT - 10_000
 """Frames after which a server on a file is started again."""
 MEMORY_FRAMES = 600_000
-"""Frames after which one in memory is: its documents have to be read by those that are left."""
+"""Frames after which one in memory is started again: the remaining frames must suffice to read its
+documents."""
 
 
 def wants_renewal(follower: Follower) -> bool:
-    """Whether the server has answered so many frames that it is to be started again."""
+    """Whether the server has answered so many frames that it must be started again."""
     limit = FILE_FRAMES if follower.given.file else MEMORY_FRAMES
     return follower.is_ready and follower.backend.frames >= limit
 
@@ -41,7 +42,7 @@ async def renew(follower: Follower) -> None:
 
 
 async def _copied(follower: Follower, old: Replica) -> Replica:
-    """A server in memory that has the documents of another one, to which nothing is written."""
+    """A server in memory with the documents of another one, to which nothing is written."""
     new = await follower.start_server()
     try:
         filling = Filling(old.ask, new.ask)
@@ -54,9 +55,9 @@ async def _copied(follower: Follower, old: Replica) -> Replica:
 
 
 async def take_snapshot(follower: Follower) -> str:
-    """Takes a snapshot between two messages; what is to be said of it.
+    """Takes a snapshot between two messages. Returns a message.
 
-    XqError where the server does not follow the log, or has no folder for snapshots.
+    Raises XqError if the server does not follow the log, or has no folder for snapshots.
     """
     folder = _folder(follower)
     async with follower.between:

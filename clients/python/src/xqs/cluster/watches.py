@@ -1,4 +1,4 @@
-"""What a node looks at again and again: silence, what holds a server, what is due, copies."""
+"""A node's periodic checks: silence, busy servers, due snapshots and restarts, copies."""
 
 import asyncio
 import contextlib
@@ -17,22 +17,22 @@ if TYPE_CHECKING:
     from xqs.cluster.node import Node
 
 IDLE, BEAT = 3.0, 5.0
-"""Seconds without a message of the log after which a mark is written, to see that it comes; and in
-any case, to see that it comes soon."""
+"""Seconds without a message of the log after which a mark is written, to see that it comes; and the
+seconds between marks in any case, to see that they come soon."""
 LOOK = 0.5
-"""Seconds between two looks at what is due."""
+"""Seconds between two looks for what is due."""
 HELD = 0.25
-"""Seconds between two looks whether a request holds a server for too long."""
+"""Seconds between two checks whether a request occupies a server for too long."""
 ENTRY_TIMES = 5
-"""So many times as long as a client's request an entry of the log may take: a slower machine has
-to carry out what another one tried."""
+"""How many times as long as a client's request an entry of the log may take: a slow machine must be
+able to carry out what a fast one tried."""
 SOON, COPIES, LATER = 5.0, 30.0, 300.0
-"""Seconds between two looks at how many brokers have a copy: after one that found fewer, while some
-have none, and later."""
+"""Seconds between two checks how many brokers have a copy: after a change for the worse, while some
+lack one, and later."""
 
 
 def of(node: "Node") -> Iterator[Coroutine[Any, Any, None]]:
-    """All watches of a node, each of which runs for as long as the node."""
+    """All checks of a node, which run for as long as the node."""
     yield watch_silence(node)
     yield watch_due(node)
     yield watch_held(node)
@@ -41,7 +41,8 @@ def of(node: "Node") -> Iterator[Coroutine[Any, Any, None]]:
 
 
 def shift_of(name: str, every: int) -> int:
-    """How far a node's snapshots are from those of others, which have other names."""
+    """An offset that depends on the node's name, so that nodes take snapshots at different
+    places."""
     return int.from_bytes(hashlib.sha256(name.encode()).digest()[:8]) % every
 
 
@@ -60,8 +61,8 @@ async def watch_due(node: "Node") -> None:
 
 
 def is_snapshot_due(node: "Node") -> bool:
-    """Whether one is due: at places that are others for each name, so that not all nodes take
-    theirs at once."""
+    """Whether a snapshot is due: at places that depend on the node's name, so that not all nodes
+    take theirs at once."""
     if not node.options.snapshots or not node.follows():
         return False
     place, every = max(it.state.place for it in node.followers), node.options.every
@@ -70,8 +71,8 @@ def is_snapshot_due(node: "Node") -> bool:
 
 
 async def watch_held(node: "Node") -> None:
-    """Ends a server that a read holds for too long; one that an entry holds steps aside; one that
-    was stopped as a process is started again."""
+    """Ends a server that a read occupies for too long; one that an entry occupies steps aside; one
+    that was stopped as a process is started again."""
     longest, stopped = node.options.seconds, Stopped()
     while True:
         await asyncio.sleep(min(HELD, longest / 4))
@@ -83,9 +84,9 @@ async def watch_held(node: "Node") -> None:
 
 
 async def watch_copies(node: "Node") -> None:
-    """Looks at how many brokers have a copy of the log, and warns until all have.
+    """Checks how many brokers have a copy of the log, and warns until all have one.
 
-    A copy may begin late where its broker has: so one counts as missing once it was twice.
+    A copy may begin late if its broker starts late, so one counts as missing only after two checks.
     """
     told, missed = set[str](), set[str]()
     while True:
@@ -104,8 +105,8 @@ async def watch_copies(node: "Node") -> None:
 
 
 async def find_end(node: "Node") -> None:
-    """Asks for the log's end once, as soon as this node has its first entry: how far it has to
-    go where it catches up."""
+    """Asks for the log's end once, when this node has its first entry: that is how far it must go
+    to catch up."""
     while not any(it.state.identity for it in node.followers):
         await asyncio.sleep(LOOK)
     with contextlib.suppress(Away):
@@ -113,7 +114,8 @@ async def find_end(node: "Node") -> None:
 
 
 async def watch_silence(node: "Node") -> None:
-    """Writes a mark where nothing comes: followers ask anew where that does not come either."""
+    """Writes a mark when nothing comes: if that doesn't come either, followers read the log
+    anew."""
     loop = asyncio.get_running_loop()
     marked = 0.0
     while True:
