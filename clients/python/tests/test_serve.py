@@ -209,7 +209,7 @@ class Refused(ServeTest):
             client.list()
             done = self.serve()
             self.assertEqual(done.returncode, 1)
-            self.assertRegex(done.stderr, r"x\.db is in use by process \d+ .*: end that, or ask")
+            self.assertRegex(done.stderr, r"x\.db is in use by process \d+ .*: end that process, or")
             self.assertIn("is in use by process", self.stop().stderr)
         self.assertEqual(self.serve("--servers", "1").returncode, 0)
 
@@ -238,7 +238,7 @@ class Refused(ServeTest):
         for is_replaced in (False, True):
             if is_replaced:
                 self.path.write_bytes(b"other")
-            with self.assertRaisesRegex(NotThisFile, "is not the file any more that is served"):
+            with self.assertRaisesRegex(NotThisFile, "serves another file than"):
                 connect(file_server(self.path))
         self.path.unlink()
         self.assertEqual(self.stop().returncode, 0)
