@@ -300,7 +300,7 @@ class SystemdTest(FolderTest):
     def test_without_systemd_it_is_refused(self) -> None:
         done = run_xqs("mux", "systemd:", "--servers", "1", "--", *server_command())
         self.assertEqual(done.returncode, 1)
-        self.assertIn("systemd has given no socket", done.stderr)
+        self.assertIn("systemd passed no socket", done.stderr)
 
 
 if __name__ == "__main__":

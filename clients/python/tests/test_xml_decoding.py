@@ -69,8 +69,8 @@ class Encodings(unittest.TestCase):
             self.assertEqual(codec_of(name), "")
 
     def test_declarations_that_can_not_be_true(self) -> None:
-        self.refused(declared("UTF-16", "a").encode(), (1, 31), "the bytes are not so")
-        self.refused(declared("UTF-8", "a").encode("utf-16-le"), (1, 31), "the bytes are not so")
+        self.refused(declared("UTF-16", "a").encode(), (1, 31), "the bytes contradict it")
+        self.refused(declared("UTF-8", "a").encode("utf-16-le"), (1, 31), "the bytes contradict it")
         self.refused(b"<?xml version='1.0'" + b" " * 70_000 + b"encoding='latin1'?><a/>", (1, 1),
                      "more than 65536 bytes")
 

@@ -357,7 +357,7 @@ class Logs(ClusterTest):
         node = self.made("n1")
         node.begin(is_awaited=False)
         self.assertEqual(await asyncio.to_thread(node.process.wait, 90), 1)
-        self.assertIn("is a queue and no stream: name another log", node.said())
+        self.assertIn("is that of a queue, not a stream: name another log", node.said())
 
     async def test_without_two_brokers_reads_go_on_and_writes_are_unknown(self) -> None:
         node = self.made("n1")
