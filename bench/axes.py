@@ -1,9 +1,7 @@
 """Times the axes over documents of ten thousand and of a hundred thousand elements, from each
 source of rows.
 
-usage: axes.py [--runs N] [FOLDER]
-
-Builds bench/axes/main.rattle in the folder, unless an earlier call did.
+    tools/run axes [--runs N] [FOLDER]     builds its program there, unless an earlier call did
 
 The documents have the shape of the library that queries are measured on, made as rows. They are
 read from trees in memory ("memory"), from a view of a store that has read nothing of them ("first")
@@ -22,15 +20,12 @@ rows that it gives are dropped. These three are timed in turn, five times.
 """
 
 import argparse
-import os
 import subprocess
 import sys
 import tempfile
 from typing import TypeAlias
 
-TOP = os.path.join(os.path.dirname(os.path.abspath(__file__)), "..")
-sys.path.insert(0, os.path.join(TOP, "tools"))
-from workspace import bench_program
+from tools.common.workspace import bench_program
 
 USES = (
     "xq_atoms", "xq_trees", "xq_sources", "xq_memory_disk", "xq_store", "xq_expressions",

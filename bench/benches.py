@@ -1,28 +1,24 @@
-#!/usr/bin/env python3
 """Runs benchmarks, one after another, over one workspace: the libraries are proved once.
 
-    bench/run.py NAME ..      bench/run.py all      bench/run.py --list
-    bench/run.py --write NAME ..
+    tools/run benches NAME ..      tools/run benches all      tools/run benches --list
+    tools/run benches --write NAME ..
 
 Those of the libraries are built in out/bench; those of the program take the one that `./serve` has
 proved, or that --server names. What each prints goes to standard output, below its name; with
 --write its tables go into docs/MEASURES.md as well, between the marks of its name, with the day,
 the commit and the machine. Status 1 where one fails or misses a bound of its own. Beside a gate, or
-after one: tools/over_gate.py CLONE python3 bench/run.py ..
+after one: tools/run over_gate CLONE tools/run benches ..
 """
 
 import argparse
 import datetime
 import os
-import pathlib
 import subprocess
 import sys
 
-import figures
-
-BENCH = pathlib.Path(__file__).resolve().parent
-sys.path.insert(0, str(BENCH.parent / "tools"))
-from workspace import bench_program
+from bench import figures
+from tools.common.repository import TOP
+from tools.common.workspace import bench_program
 
 # Benchmarks of the libraries that are a script of their own, and those that are a program alone.
 OF_LIBRARIES = ("lexer", "parser", "statics", "plan", "build", "functions", "evaluation", "axes",
@@ -39,7 +35,7 @@ def command_of(name: str, server: str | None) -> list[str]:
     """What runs the benchmark."""
     if name in PROGRAMS:
         return [bench_program("", name, PROGRAMS[name])]
-    words = [sys.executable, str(BENCH / f"{name}.py")]
+    words = [sys.executable, "-m", f"bench.{name}"]
     return [*words, "--server", server] if server and name in OF_PROGRAM else words
 
 
@@ -47,9 +43,9 @@ def run(name: str, server: str | None, is_written: bool) -> bool:
     """Runs a benchmark; whether it ended well. What it prints is shown as it comes."""
     command = command_of(name, server)
     if not is_written:
-        return subprocess.run(command, cwd=BENCH.parent).returncode == 0
+        return subprocess.run(command, cwd=TOP).returncode == 0
     printed = []
-    with subprocess.Popen(command, cwd=BENCH.parent, stdout=subprocess.PIPE, text=True) as bench:
+    with subprocess.Popen(command, cwd=TOP, stdout=subprocess.PIPE, text=True) as bench:
         assert bench.stdout is not None
         for line in bench.stdout:
             print(line, end="", flush=True)
@@ -71,7 +67,7 @@ def main() -> int:
     if given.list or not given.names:
         print(*NAMES)
         return 0
-    os.environ["XQ_WORKSPACE"] = str(BENCH.parent / "out" / "bench")
+    os.environ["XQ_WORKSPACE"] = str(TOP / "out" / "bench")
     os.makedirs(os.environ["XQ_WORKSPACE"], exist_ok=True)
     failed = []
     for name in NAMES if "all" in given.names else given.names:
@@ -79,7 +75,7 @@ def main() -> int:
         try:
             is_good = run(name, given.server, given.write)
         except figures.NoMark as error:
-            print(f"run: {error}")
+            print(f"benches: {error}")
             is_good = False
         if not is_good:
             failed.append(name)

@@ -1,21 +1,18 @@
 """Builds, copies and prints elements of some 10^5 and 10^6 items; prints times, ratios and MB/s.
 
-usage: build.py [FOLDER]    builds bench/build/main.rattle there, unless an earlier call did
+    tools/run build [FOLDER]     builds its program there, unless an earlier call did
 
 A time is the least of fifteen runs, and begins with empty caches; the two sizes are run in turn,
 since the machine's speed changes.
 """
 
-import os
 import subprocess
 import sys
-import tempfile
 from collections.abc import Sequence
 from typing import TypeAlias
 
-TOP = os.path.join(os.path.dirname(os.path.abspath(__file__)), "..")
-sys.path.insert(0, os.path.join(TOP, "tools"))
-from workspace import bench_program
+from bench.command_line import folder
+from tools.common.workspace import bench_program
 
 USES = (
     "xq_atoms", "xq_expressions", "xq_trees", "xq_sources", "xq_meaning", "xq_build",
@@ -65,8 +62,9 @@ def measure(program: str) -> None:
 
 
 def main() -> None:
-    with tempfile.TemporaryDirectory() as scratch:
-        measure(bench_program(sys.argv[1] if len(sys.argv) > 1 else scratch, "build", USES))
+    """Builds and measures."""
+    with folder(__doc__) as room:
+        measure(bench_program(room, "build", USES))
 
 
 if __name__ == "__main__":

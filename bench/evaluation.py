@@ -1,19 +1,17 @@
-#!/usr/bin/env python3
 """Times of queries over a document in memory: a source of fragments, no server and no database.
 
-    bench/evaluation.py [--engines] [FOLDER]
+    tools/run evaluation [--engines] [FOLDER]
 
-Builds bench/evaluation/main.rattle in the folder, unless an earlier call did. The queries and the
-document are those of bench/queries.py, of 10,000 and of 100,000 elements. For each: the
-milliseconds for both sizes, the least of four runs of five turns, reading and planning of the query
-included; the same of turns that begin with empty caches, and how many times as long the larger
-takes then; and the rows that it reads. With --engines follow the least milliseconds of other
+Builds its program in the folder, unless an earlier call did. The queries and the document are those
+of bench/queries.py, of 10,000 and of 100,000 elements. For each: the milliseconds for both sizes,
+the least of four runs of five turns, reading and planning of the query included; the same of turns
+that begin with empty caches, and how many times as long the larger takes then; and the rows that it
+reads. With --engines follow the least milliseconds of other
 engines for 100,000 elements (bench/engines.py), as far as they are installed, of 15 runs after 5,
 right after ours. The smaller document lies in the processor's caches from one turn to the next and
 the larger doesn't, so growth is judged where neither does.
 """
 import argparse
-import os
 import pathlib
 import subprocess
 import sys
@@ -21,12 +19,10 @@ import tempfile
 from collections.abc import Iterable, Sequence
 from typing import TypeAlias
 
-TOP = os.path.join(os.path.dirname(os.path.abspath(__file__)), "..")
-sys.path[:0] = [os.path.join(TOP, "tools"), os.path.join(TOP, "bench")]
-from bounds import figure, row
-from engines import DATABASE, NODES, SAXON, driven, in_turn, warm_up
-from queries import LARGE, QUERIES, document
-from workspace import bench_program
+from bench.bounds import figure, row
+from bench.engines import DATABASE, NODES, SAXON, driven, in_turn, warm_up
+from bench.queries import LARGE, QUERIES, document
+from tools.common.workspace import bench_program
 
 USES = ("xq_atoms", "xq_queries", "xq_sources")
 # The most that a time may grow where the document grows tenfold.

@@ -1,9 +1,6 @@
-#!/usr/bin/env python3
 """Times of functions and operators over long inputs, and how they grow.
 
-    bench/functions.py [FOLDER]
-
-Builds bench/evaluation/main.rattle in the folder, unless an earlier call did.
+    tools/run functions [FOLDER]     builds its program there, unless an earlier call did
 
 Each line is a function of a long list or text, evaluated over a source in memory, eight times in
 one query: milliseconds of one of the eight for 100,000 and for 1,000,000 items or characters, the
@@ -12,10 +9,10 @@ larger takes, at most 15. An argument is copied for each call, which is counted.
 """
 import subprocess
 import sys
-import tempfile
 
-from evaluation import TURNS, USES
-from workspace import bench_program
+from bench.command_line import folder
+from bench.evaluation import TURNS, USES
+from tools.common.workspace import bench_program
 
 SIZES = (100_000, 1_000_000)
 CALLS_EACH = 8
@@ -75,8 +72,9 @@ def times(program: str, size: int) -> list[tuple[float, float]]:
 
 
 def main() -> int:
-    with tempfile.TemporaryDirectory() as scratch:
-        program = bench_program(sys.argv[1] if len(sys.argv) > 1 else scratch, "evaluation", USES)
+    """Builds and measures; status 1 where a time grows too fast."""
+    with folder(__doc__) as room:
+        program = bench_program(room, "evaluation", USES)
         small, large = times(program, SIZES[0]), times(program, SIZES[1])
     print("| Function | 100,000 | 1,000,000 | growth | its input |")
     print("|---|---|---|---|---|")

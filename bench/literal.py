@@ -1,19 +1,20 @@
 """Stores document literals of 0.25, 0.5 and 1 MB through the server and reads them back; prints
 times and ratios.
 
-usage: literal.py [SERVER]
+    tools/run literal [SERVER]     ./serve where none is named
 
 A run's time is that of the whole program, from its start to its end, less that of a run of an empty
 input; the time of one read is a tenth of ten reads'.
 """
 
-import os
 import struct
 import subprocess
 import sys
 import time
 
-TOP = os.path.dirname(os.path.dirname(os.path.abspath(__file__)))
+from tools.common import command_line
+from tools.common.repository import TOP
+
 READS = 10
 
 
@@ -47,7 +48,10 @@ def timed(server: str, data: bytes) -> tuple[float, bytes]:
 
 
 def main() -> None:
-    server = sys.argv[1] if len(sys.argv) > 1 else os.path.join(TOP, "serve")
+    """Measures, and prints the table."""
+    words = command_line.parser(__doc__)
+    words.add_argument("server", nargs="?", default=str(TOP / "serve"), help="(./serve)")
+    server = words.parse_args().server
     empty, _ = timed(server, b"")
     before: tuple[float, ...] = ()
     heads = ("bytes", "nodes", "store ms", "read ms", "ratio", "ratio")

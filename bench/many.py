@@ -1,7 +1,6 @@
-#!/usr/bin/env python3
 """What many documents cost: stores, and the queries after them, in memory and on a file.
 
-    bench/many.py [--server WORDS] [--documents N] [--rows N]
+    tools/run many [--server WORDS] [--documents N] [--rows N]
 
 Documents of 99 nodes are stored one after another, 10,000 where no number is named. Shown are
 stores a second, the median over batches of 100, up to 100, 500, 1,000 .. documents; then the median
@@ -21,9 +20,7 @@ import tempfile
 import time
 from collections.abc import Callable, Sequence
 
-TOP = pathlib.Path(__file__).resolve().parent.parent
-sys.path.insert(0, str(TOP / "tools"))
-from harness import Server, built, store
+from tools.common.harness import Server, built, store
 
 BATCH = 100
 TURNS = 21

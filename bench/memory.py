@@ -1,6 +1,6 @@
 """Measures what a view holds of a document of a million rows, and what the store keeps of it.
 
-usage: memory.py [FOLDER]    builds bench/axes/main.rattle in the folder, unless an earlier call did
+    tools/run memory [FOLDER]     builds its program there, unless an earlier call did
 
 One process stores the document in a file, another opens it and reads all rows through a view, and
 again through a second one; then all elements are found by their names, and all attributes by their
@@ -15,24 +15,22 @@ documents together are kept at most, by the bound that the store's source has.
 
 import dataclasses
 import os
-import pathlib
 import re
 import subprocess
 import sys
 import tempfile
 from collections.abc import Sequence
 
-HERE = os.path.dirname(os.path.abspath(__file__))
-sys.path.insert(0, HERE)
-sys.path.insert(0, os.path.join(HERE, "..", "tools"))
-from axes import USES
-from workspace import bench_program
+from bench.axes import USES
+from bench.command_line import folder
+from tools.common.repository import TOP
+from tools.common.workspace import bench_program
 
 # The library of so many elements has a million rows.
 ELEMENTS = 414_491
 
 # Where the store's source says how many bytes are kept at most, as 128 << 20.
-ROOM = pathlib.Path(HERE, "..", "crates", "xq_store", "src", "room.rt")
+ROOM = TOP / "crates" / "xq_store" / "src" / "room.rt"
 MOST_KEPT = re.compile(r"^pub\(crate\) const USUAL_BOUND: usize = (\d+) << (\d+);$",
                        re.MULTILINE)
 
@@ -52,7 +50,7 @@ class Stage:
 def counter(folder: str) -> str | None:
     """The library that counts what is allocated, if there is a C compiler."""
     path = os.path.join(folder, "held.so")
-    source = os.path.join(HERE, "store", "held.c")
+    source = str(TOP / "bench" / "store" / "held.c")
     words = ["cc", "-shared", "-fPIC", "-O1", "-o", path, source, "-ldl"]
     try:
         subprocess.run(words, check=True)
@@ -128,8 +126,9 @@ def measure(program: str) -> None:
 
 
 def main() -> None:
-    with tempfile.TemporaryDirectory() as scratch:
-        measure(bench_program(sys.argv[1] if len(sys.argv) > 1 else scratch, "axes", USES))
+    """Builds and measures."""
+    with folder(__doc__) as room:
+        measure(bench_program(room, "axes", USES))
 
 
 if __name__ == "__main__":

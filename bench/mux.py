@@ -1,7 +1,6 @@
-#!/usr/bin/env python3
 """Measures several servers below `xqs mux` beside one, and refuses what is beyond its bound.
 
-    bench/mux.py [--rows N] [--runs N] [NAME ..] [-- SERVER WORDS]
+    tools/run mux [--rows N] [--runs N] [NAME ..] [-- SERVER WORDS]
 
 NAME is `reads`, `lookups`, `restart` or `stores`; without one all are measured. The server is
 ./serve where none is named. What is compared is measured in turn, one after the other, and the
@@ -21,9 +20,9 @@ import argparse
 import os
 import pathlib
 import signal
+import socket
 import statistics
 import struct
-import socket
 import subprocess
 import sys
 import tempfile
@@ -32,7 +31,8 @@ import time
 from collections.abc import Callable, Iterator
 from contextlib import contextmanager
 
-TOP = pathlib.Path(__file__).resolve().parent.parent
+from tools.common.repository import TOP
+
 SERVERS = 3
 SECONDS = 4.0
 """How long each rate is measured."""

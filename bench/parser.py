@@ -1,8 +1,6 @@
 """Parses long chains, signs and open parentheses; prints times, and how they grow with the length.
 
-usage: parser.py [FOLDER]
-
-Builds bench/parser/main.rattle in the folder, unless an earlier call did.
+    tools/run parser [FOLDER]     builds its program there, unless an earlier call did
 
 A time is the least of five runs, without the lexer, the program's start and its input; the end of
 the expression is in it. The last lines are the least stack, in kilobytes, on which a text nested
@@ -10,16 +8,13 @@ the expression is in it. The last lines are the least stack, in kilobytes, on wh
 predicates, which took most of 323 nests that were tried.
 """
 
-import os
 import resource
 import subprocess
 import sys
-import tempfile
 from collections.abc import Callable
 
-TOP = os.path.join(os.path.dirname(os.path.abspath(__file__)), "..")
-sys.path.insert(0, os.path.join(TOP, "tools"))
-from workspace import bench_program
+from bench.command_line import folder
+from tools.common.workspace import bench_program
 
 USES = ("xq_atoms", "xq_lexer", "xq_expressions", "xq_parser", "sqlite_items")
 CHAINS: tuple[tuple[str, int, str, Callable[[int], str]], ...] = (
@@ -93,8 +88,9 @@ def measure(program: str) -> None:
 
 
 def main() -> None:
-    with tempfile.TemporaryDirectory() as scratch:
-        measure(bench_program(sys.argv[1] if len(sys.argv) > 1 else scratch, "parser", USES))
+    """Builds and measures."""
+    with folder(__doc__) as room:
+        measure(bench_program(room, "parser", USES))
 
 
 if __name__ == "__main__":

@@ -1,7 +1,6 @@
-#!/usr/bin/env python3
 """How much stack nested queries and plans take, as LLVM builds the program.
 
-    bench/stack.py [FOLDER]    builds bench/stack/main.rattle there, unless an earlier call did
+    tools/run stack [FOLDER]     builds its program there, unless an earlier call did
 
 First plans, made without a text, so that their evaluation alone takes stack: for each form the
 bytes of one level, from plans of 128 and of 1,024 levels, and the kilobytes of 128. Then queries,
@@ -9,15 +8,12 @@ nested as deep as a query may be: how many times each form was repeated, and the
 the query is read, and on which it is read and evaluated. The form of all operators has most levels
 of a plan in one level of the query. The last lines are the worst.
 """
-import os
 import resource
 import subprocess
 import sys
-import tempfile
 
-TOP = os.path.join(os.path.dirname(os.path.abspath(__file__)), "..")
-sys.path.insert(0, os.path.join(TOP, "tools"))
-from workspace import bench_program
+from bench.command_line import folder
+from tools.common.workspace import bench_program
 
 USES = (
     "xq_atoms", "xq_eval", "xq_expressions", "xq_meaning", "xq_queries", "xq_trees",
@@ -132,8 +128,9 @@ def of_queries(program: str) -> tuple[int, str]:
 
 
 def main() -> None:
-    with tempfile.TemporaryDirectory() as scratch:
-        program = bench_program(sys.argv[1] if len(sys.argv) > 1 else scratch, "stack", USES)
+    """Builds and measures."""
+    with folder(__doc__) as room:
+        program = bench_program(room, "stack", USES)
         level, form = of_plans(program)
         most, name = of_queries(program)
     print("the most of one level of a plan: %d bytes, %s" % (level, form))

@@ -1,4 +1,4 @@
-"""Tests of bounds.py. Run them by `python3 -m unittest discover bench`."""
+"""Tests of bounds.py."""
 
 from __future__ import annotations
 
@@ -6,8 +6,8 @@ import contextlib
 import io
 import unittest
 
-import bounds
-from bounds import Bound, Times
+from bench import bounds
+from bench.bounds import Bound, Times
 
 
 class Statistics(unittest.TestCase):

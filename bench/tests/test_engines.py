@@ -1,6 +1,5 @@
 """Tests of engines.py, and of what queries.py judges. No engine is started.
 
-Run them by `python3 -m unittest discover bench`.
 """
 
 from __future__ import annotations
@@ -12,10 +11,9 @@ import tempfile
 import unittest
 from unittest import mock
 
-import engines
-import queries
-from bounds import Bound, Times
-from engines import Peer, Spent
+from bench import engines, queries
+from bench.bounds import Bound, Times
+from bench.engines import Peer, Spent
 
 ABSENT = Peer("Absent", "no-such-package", "no-such-*.jar", "AbsentPeer")
 

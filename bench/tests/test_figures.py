@@ -3,7 +3,7 @@
 import datetime
 import unittest
 
-import figures
+from bench import figures
 
 PAGE = "# M\n\na\n\n<!-- bench x -->\nold\n<!-- end -->\n\n<!-- bench y -->\nkept\n<!-- end -->\n"
 

@@ -1,6 +1,5 @@
 """Tests of load.py and shapes.py. No engine and no server is started.
 
-Run them by `python3 -m unittest discover bench`.
 """
 
 from __future__ import annotations
@@ -11,11 +10,10 @@ import tempfile
 import unittest
 from unittest import mock
 
-import load
-import shapes
-from bounds import Times
-from engines import Driven, Spent
-from shapes import Row
+from bench import load, shapes
+from bench.bounds import Times
+from bench.engines import Driven, Spent
+from bench.shapes import Row
 
 PRINTED = ('document {element lib {element book {attribute id {"1"}, text {"A"}}, '
            'element book {attribute id {"2"}, text {"B"}}}}')

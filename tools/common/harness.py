@@ -11,7 +11,8 @@ import sys
 from collections.abc import Iterable
 from typing import IO, Any, TypeAlias
 
-TOP = pathlib.Path(__file__).resolve().parent.parent
+from tools.common.repository import BUILT, TOP
+
 LIBRARY = (b'document {element lib {element book {attribute id {"1"}, text {"A"}}, '
            b'element book {attribute id {"2"}, text {"B"}}}}')
 TAG = 7
@@ -31,11 +32,10 @@ def store(address: bytes, text: bytes) -> bytes:
 
 def built() -> pathlib.Path:
     """The path of the program, which is proved and built first where it is not there."""
-    path = TOP / "crates" / "xq_serve" / "out" / "xq_serve"
-    if not path.exists():
+    if not BUILT.exists():
         subprocess.run(
             [TOP / "serve"], stdin=subprocess.DEVNULL, stdout=subprocess.DEVNULL, check=True)
-    return path
+    return BUILT
 
 
 def _there(stream: IO[bytes] | None) -> IO[bytes]:

@@ -8,9 +8,21 @@ import shutil
 import subprocess
 from collections.abc import Iterable, Mapping
 
-TOP = pathlib.Path(__file__).resolve().parent.parent
+TOP = pathlib.Path(__file__).resolve().parents[2]
+CLIENT = TOP / "clients" / "python"
 PROGRAM = "xq_serve"
+BUILT = TOP / "crates" / PROGRAM / "out" / PROGRAM
+"""The program, where ./serve has built it."""
 STORED_RUN_SECONDS = 60
+
+
+def environment() -> dict[str, str]:
+    """The environment of a Python that finds the packages of this repository, as tools/run sets it.
+    """
+    folders = (TOP, CLIENT / "src", CLIENT, CLIENT / "with_packages")
+    before = os.environ.get("PYTHONPATH", "").split(os.pathsep)
+    paths = dict.fromkeys([*map(str, folders), *filter(None, before)])
+    return {**os.environ, "PYTHONPATH": os.pathsep.join(paths)}
 
 
 def libraries(path: str | os.PathLike[str]) -> dict[str, list[str]]:

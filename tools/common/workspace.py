@@ -11,15 +11,19 @@ import subprocess
 import sys
 from collections.abc import Collection, Iterable
 
-from repository import all_below, libraries
+from tools.common.repository import TOP, all_below, libraries
 
-TOP = os.path.dirname(os.path.dirname(os.path.abspath(__file__)))
-# What is timed runs as ./serve runs the program: with its settings of the allocator.
 GIGABYTE = 1 << 30
-os.environ.setdefault("GLIBC_TUNABLES", ":".join((
+ALLOCATOR = ":".join((
     "glibc.malloc.hugetlb=1", "glibc.malloc.top_pad=67108864",
-    "glibc.malloc.mmap_threshold=%d" % GIGABYTE, "glibc.malloc.trim_threshold=%d" % GIGABYTE,
-    "glibc.malloc.mxfast=0")))
+    f"glibc.malloc.mmap_threshold={GIGABYTE}", f"glibc.malloc.trim_threshold={GIGABYTE}",
+    "glibc.malloc.mxfast=0"))
+
+
+def use_allocator() -> None:
+    """Has the programs that this process starts run as ./serve runs its program: with its settings
+    of the allocator, unless some are set."""
+    os.environ.setdefault("GLIBC_TUNABLES", ALLOCATOR)
 
 
 def lines_of(crates: Collection[str]) -> list[str]:
@@ -68,6 +72,7 @@ def built(folder: str, crates: Iterable[str], uses: Iterable[str], source: str,
 
     The folder of proofs, where there is one, holds those of the program, in files that end in .txt:
     the gate reads each .antt file outside of a crate as one that was left there."""
+    use_allocator()
     begin(folder, crates)
     program = os.path.join(folder, "crates", name)
     os.makedirs(os.path.join(program, "src"), exist_ok=True)
@@ -76,7 +81,7 @@ def built(folder: str, crates: Iterable[str], uses: Iterable[str], source: str,
     with open(os.path.join(program, "src", "main.rt"), "w") as main:
         main.write(source)
     if "\nmod caches;\n" in source:
-        shutil.copy(os.path.join(TOP, "bench", "caches.rattle"),
+        shutil.copy(os.path.join(TOP, "bench", "programs", "caches.rattle"),
                     os.path.join(program, "src", "caches.rt"))
     with open(os.path.join(folder, "crates.txt"), "a") as lines:
         lines.write("%s: %s\n" % (name, " ".join(uses)))
@@ -88,15 +93,16 @@ def built(folder: str, crates: Iterable[str], uses: Iterable[str], source: str,
 
 
 def bench_program(folder: str, name: str, uses: Iterable[str]) -> str:
-    """The path of the program of bench/NAME/main.rattle, built in the folder unless it is there.
+    """The path of the program of bench/programs/NAME, built in the folder unless it is there.
 
     Where XQ_WORKSPACE names a folder, it is built there, beside the programs of other benchmarks
     over the same libraries, and anew."""
+    use_allocator()
     shared = os.environ.get("XQ_WORKSPACE")
     path = os.path.join(folder, "crates", "program", "out", "program")
     if not shared and os.path.exists(path):
         return path
-    bench = os.path.join(TOP, "bench", name)
+    bench = os.path.join(TOP, "bench", "programs", name)
     with open(os.path.join(bench, "main.rattle")) as source:
         return built(shared or folder, crates_below(uses), uses, source.read(),
                      os.path.join(bench, "proofs"), f"{name}_times" if shared else "program")

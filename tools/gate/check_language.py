@@ -1,8 +1,7 @@
-#!/usr/bin/env python3
 """Compares docs/LANGUAGE.md with the rows that the checker computes.
 
-    tools/check_language.py             prints what doesn't agree
-    tools/check_language.py --write     writes the two files of rows anew first
+    tools/run check_language             prints what doesn't agree
+    tools/run check_language --write     writes the two files of rows anew first
 
 Each example of the page has to stand as a row in crates/xq_meaning/proofs/LanguageRows or
 MoreLanguageRows, with the same query and the same answer; and each definition that the page cites
@@ -15,7 +14,9 @@ import re
 import sys
 from collections.abc import Iterable, Iterator
 
-from rows.files import TOP, Row, file_of, text_of
+from tools.common import command_line
+from tools.common.repository import TOP
+from tools.language.files import Row, file_of, text_of
 
 PAGE = os.path.join(TOP, "docs/LANGUAGE.md")
 PROOFS = os.path.join(TOP, "crates/xq_meaning/proofs")
@@ -122,10 +123,14 @@ def missing_definitions(page: str) -> Iterator[str]:
             yield f"no definition: {file}: {name}"
 
 
-def main(words: list[str]) -> int:
+def main() -> int:
+    """Compares the page with its rows, which are written first where that is asked for."""
+    words = command_line.parser(__doc__)
+    words.add_argument("--write", action="store_true")
+    is_written = words.parse_args().write
     # (the table of the grammar has brackets of its own)
     page = re.sub(r"(?s)<!-- grammar.*<!-- /grammar -->", "", read(PAGE))
-    if "--write" in words:
+    if is_written:
         write(page)
     faults = [*missing_rows(page), *missing_definitions(page)]
     print("\n".join([*faults, "%d examples, %d definitions cited, %d faults" % (
@@ -134,4 +139,4 @@ def main(words: list[str]) -> int:
 
 
 if __name__ == "__main__":
-    sys.exit(main(sys.argv[1:]))
+    sys.exit(main())

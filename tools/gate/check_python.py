@@ -1,7 +1,6 @@
-#!/usr/bin/env python3
 """Checks types and style of the Python files of this repository.
 
-    tools/check_python.py
+    tools/run check_python
 
 mypy runs in the root over tools/ and bench/, and in clients/python over the client and its tests,
 each time with the pyproject.toml of that folder. pycodestyle and pyflakes go over all of these; a
@@ -19,7 +18,8 @@ import subprocess
 import sys
 from collections.abc import Sequence
 
-TOP = pathlib.Path(__file__).resolve().parent.parent
+from tools.common.repository import TOP
+
 INSTALL = "apt-get install mypy pycodestyle pyflakes3"
 # Imports after a line that changes the path, blanks in slices, a line of `def` with its `...`, and
 # breaks beside operators: pycodestyle refuses either side.

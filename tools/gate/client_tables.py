@@ -1,20 +1,20 @@
-#!/usr/bin/env python3
 """Writes what the client knows of the language from the server's own tables: the grammar of
 crates/xq_parser/specs/Grammar.antt, and the functions of Signatures.antt in
 crates/xq_expressions/specs.
 
-    tools/client_tables.py --check      says, by its status too, whether the client has them so
-    tools/client_tables.py --write      writes them anew, into the client and docs/LANGUAGE.md
+    tools/run client_tables --check      says, by its status too, whether the client has them so
+    tools/run client_tables --write      writes them anew, into the client and docs/LANGUAGE.md
 """
 
 from __future__ import annotations
 
-import pathlib
 import re
 import sys
 from collections.abc import Iterator
 
-TOP = pathlib.Path(__file__).resolve().parent.parent
+from tools.common import command_line
+from tools.common.repository import TOP
+
 GRAMMAR = TOP / "crates/xq_parser/specs/Grammar.antt"
 SPELLING = TOP / "crates/xq_lexer/specs/Spelling.antt"
 SIGNATURES = TOP / "crates/xq_expressions/specs/Signatures.antt"
@@ -205,8 +205,8 @@ def module() -> str:
     types = ", ".join(f'"{it}"' for it in functions("constructors"))
     names = "\n".join(f'    "{it}",' for it in no_calls())
     table = "\n".join(wrapped(line) for line in grammar().split("\n"))
-    return f'''"""What the client knows of the language. tools/client_tables.py writes this from the
-server's own tables, and a test compares them: change nothing here by hand.
+    return f'''"""What the client knows of the language. `tools/run client_tables --write` writes this
+from the server's own tables, and a test compares them: change nothing here by hand.
 """
 
 FUNCTIONS: dict[str, tuple[int, int | None]] = {{
@@ -239,7 +239,7 @@ def wrapped(line: str) -> str:
 
 def page(text: str) -> str:
     """The page of the language with the grammar as it is."""
-    begin, end = "<!-- grammar: tools/client_tables.py -->\n", "<!-- /grammar -->"
+    begin, end = "<!-- grammar: tools/run client_tables --write -->\n", "<!-- /grammar -->"
     before, _, rest = text.partition(begin)
     _, _, after = rest.partition(end)
     lines = "\n".join("    " + it for line in grammar().split("\n")
@@ -249,19 +249,21 @@ def page(text: str) -> str:
 
 def main() -> int:
     """Compares, or writes."""
+    words = command_line.parser(__doc__)
+    which = words.add_mutually_exclusive_group(required=True)
+    which.add_argument("--check", action="store_true")
+    which.add_argument("--write", action="store_true")
+    given = words.parse_args()
     wanted = {MODULE: module(), PAGE: page(PAGE.read_text(encoding="utf-8"))}
     differing = [it for it, text in wanted.items()
                  if not it.exists() or it.read_text(encoding="utf-8") != text]
-    if sys.argv[1:] == ["--write"]:
+    if given.write:
         for path in differing:
             path.write_text(wanted[path], encoding="utf-8")
         return 0
-    if sys.argv[1:] != ["--check"]:
-        print(__doc__, file=sys.stderr)
-        return 2
     for path in differing:
         print(f"{path.relative_to(TOP)} is not as the server has it: "
-              "tools/client_tables.py --write", file=sys.stderr)
+              "tools/run client_tables --write", file=sys.stderr)
     return 1 if differing else 0
 
 

@@ -1,8 +1,7 @@
-#!/usr/bin/env python3
 """Runs the gate in a fresh clone of the last commit, and tells where its time goes.
 
-    tools/gate_time.py [--keep FOLDER] [COMMAND ..]     (the command is `rt ci` if none is given)
-    tools/gate_time.py --here FILE [--minutes N] [COMMAND ..]
+    tools/run gate_time [--keep FOLDER] [COMMAND ..]     (the command is `rt ci` if none is given)
+    tools/run gate_time --here FILE [--minutes N] [COMMAND ..]
 
 Prints what the gate prints, and then the processor minutes of each crate's proof, of its tests and
 of its must-fail edits, of what else ran (programs, tests, linking), and their sum, which is that of
@@ -30,7 +29,7 @@ import tempfile
 import time
 from collections.abc import Sequence
 
-import watched
+from tools.common import watched
 
 TICKS = os.sysconf("SC_CLK_TCK")
 PHASES = ("proof", "tests", "edits", "other")

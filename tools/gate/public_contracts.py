@@ -1,7 +1,6 @@
-#!/usr/bin/env python3
 """Shows which public functions and clauses differ between two commits.
 
-    tools/public_contracts.py OLD [NEW] [--rename A=B ..]     (NEW is the last commit if not given)
+    tools/run public_contracts OLD [NEW] [--rename A=B ..]     (NEW is the last commit if not given)
 
 A public function is a `pub fn` of a file below crates/*/src, outside tests and what they have in
 common; it is shown with its `requires` and `ensures`, white space folded. Words of OLD are renamed
@@ -11,8 +10,10 @@ OLD alone and `+` for NEW alone; the last line counts.
 
 import re
 import subprocess
-import sys
 from collections.abc import Iterable
+
+from tools.common import command_line
+from tools.common.repository import TOP
 
 SOURCE = re.compile(r"crates/\w+/src/.*\.rt$")
 OF_TESTS = re.compile(r"_tests/|/xq_samples/")
@@ -20,7 +21,8 @@ HEAD = re.compile(r"(?m)^[ \t]*pub (?:const )?fn ")
 
 
 def git(*words: str) -> str:
-    return subprocess.check_output(["git", *words], text=True)
+    """What git prints of this repository."""
+    return subprocess.check_output(["git", *words], cwd=TOP, text=True)
 
 
 def sources(commit: str) -> list[str]:
@@ -66,18 +68,27 @@ def contracts(commit: str, renames: Iterable[tuple[str, str]]) -> set[str]:
     return found
 
 
-def main(words: list[str]) -> None:
-    renames = [(old, new) for old, _, new in (it.partition("=") for it in words if "=" in it)]
-    commits = [it for it in words if "=" not in it and it != "--rename"]
-    old = contracts(commits[0], renames)
-    new = contracts(commits[1] if len(commits) > 1 else "HEAD", [])
+def renaming(word: str) -> tuple[str, str]:
+    """The old and the new name of `OLD=NEW`."""
+    old, _, new = word.partition("=")
+    return old, new
+
+
+def main() -> None:
+    """Shows what differs."""
+    words = command_line.parser(__doc__)
+    words.add_argument("old", help="a commit")
+    words.add_argument("new", nargs="?", default="HEAD")
+    words.add_argument("--rename", nargs="+", type=renaming, default=[], metavar="A=B")
+    given = words.parse_args()
+    old, new = contracts(given.old, given.rename), contracts(given.new, [])
     for shown in sorted(old - new):
         print(f"- {shown}\n")
     for shown in sorted(new - old):
         print(f"+ {shown}\n")
     gone, added = len(old - new), len(new - old)
-    print(f"{len(old & new)} the same, {gone} in {commits[0]} alone, {added} new")
+    print(f"{len(old & new)} the same, {gone} in {given.old} alone, {added} new")
 
 
 if __name__ == "__main__":
-    main(sys.argv[1:])
+    main()

@@ -1,8 +1,7 @@
-#!/usr/bin/env python3
 """Lists what a reader must believe: the definitions that public contracts reach.
 
-    tools/reading_order.py [--unreached] [CRATE ..]
-    tools/reading_order.py --write     writes the lines of docs/PROOFS.md anew, with their numbers
+    tools/run reading_order [--unreached] [CRATE ..]
+    tools/run reading_order --write     writes the lines of docs/PROOFS.md anew, with their numbers
 
 Begins at the clauses of the public functions of the crates named (of all, if none is), and follows
 each name through the specs/ of the repository. Prints a line for each file, lowest crate first:
@@ -22,9 +21,9 @@ import textwrap
 from collections.abc import Collection, Iterable, Iterator, Mapping
 from typing import TypeAlias
 
-import repository
+from tools.common import command_line, repository
+from tools.common.repository import TOP
 
-TOP = os.path.dirname(os.path.dirname(os.path.abspath(__file__)))
 USE = re.compile(r"(?m)^\s*(?:ghost )?use (Rattle\.[\w.+«»:-]+?)"
                  r"(?:\.\{([^}]*)\})?(?: as ([\w']+))?;?$")
 HEAD = re.compile(r" *(?:(?:abbrev|unfoldable|pub) )*(?:(?:record|data) )"
@@ -264,17 +263,22 @@ def show_unreached(files: Mapping[str, File], done: Collection[Definition]) -> N
             print(f"{os.path.relpath(file.path, TOP)}: {', '.join(names)}")
 
 
-def main(words: list[str]) -> None:
+def main() -> None:
+    """Shows the definitions that are reached, or writes their lines."""
+    words = command_line.parser(__doc__)
+    words.add_argument("--unreached", action="store_true")
+    words.add_argument("--write", action="store_true")
+    words.add_argument("crates", nargs="*", metavar="CRATE")
+    given = words.parse_args()
     files = files_of_specs()
-    crates = [it for it in words if not it.startswith("--")] or order_of_crates()
-    done = reached(files, crates)
-    if "--unreached" in words:
+    done = reached(files, given.crates or order_of_crates())
+    if given.unreached:
         show_unreached(files, done)
-    elif "--write" in words:
+    elif given.write:
         write(lines_by_crate(files, done))
     else:
         show(files, done)
 
 
 if __name__ == "__main__":
-    main(sys.argv[1:])
+    main()

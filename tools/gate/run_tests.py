@@ -1,13 +1,13 @@
-#!/usr/bin/env python3
 """Runs the modules of a folder of tests side by side, each in a process of its own.
 
-    tools/run_tests.py FOLDER [--jobs N] [--minutes N]
+    tools/run run_tests FOLDER [MODULE ..] [--jobs N] [--minutes N]
 
-FOLDER is where `python3 -m unittest` would run; its modules of tests are the files `test_*.py`
-there, and in its package `tests`. Prints a line for each module as it ends, and all that a module
-said in which a test failed. Such a module runs once more, with nothing beside it, since tests of
-time limits can fail on a machine that is busy; both runs are told. Status 1 where a module failed
-twice, or did not end in its time.
+FOLDER is where `python3 -m unittest` would run. Without MODULEs all of its tests are run: the files
+`test_*.py` there, in its package `tests`, and in those of its packages, so that `tools/run
+run_tests .` runs those of tools/ and bench/. Prints a line for each module as it ends, and all that
+a module said in which a test failed. Such a module runs once more, with nothing beside it, since
+tests of time limits can fail on a machine that is busy; both runs are told. Status 1 where a module
+failed twice, or did not end in its time.
 """
 
 from __future__ import annotations
@@ -23,7 +23,10 @@ import sys
 import time
 from collections.abc import Iterable, Sequence
 
+from tools.common.repository import environment
+
 RAN = re.compile(r"^Ran (\d+) tests? in", re.MULTILINE)
+PLACES = ("", "tests/", "*/tests/")
 SKIPPED = re.compile(r"skipped=(\d+)")
 
 
@@ -56,7 +59,7 @@ class Outcome:
 
 def modules(folder: pathlib.Path) -> list[str]:
     """The modules of tests, the largest files first: they tend to take longest."""
-    files = [*folder.glob("test_*.py"), *folder.glob("tests/test_*.py")]
+    files = [it for place in PLACES for it in folder.glob(f"{place}test_*.py")]
     files.sort(key=lambda it: it.stat().st_size, reverse=True)
     return [".".join(it.relative_to(folder).with_suffix("").parts) for it in files]
 
@@ -66,8 +69,9 @@ def run(module: str, folder: pathlib.Path, seconds: float) -> Outcome:
     words = [sys.executable, "-m", "unittest", module]
     begin = time.monotonic()
     try:
-        ended = subprocess.run(words, cwd=folder, stdin=subprocess.DEVNULL, capture_output=True,
-                               text=True, errors="replace", timeout=seconds)
+        ended = subprocess.run(
+            words, cwd=folder, env=environment(), stdin=subprocess.DEVNULL, capture_output=True,
+            text=True, errors="replace", timeout=seconds)
         status, said = ended.returncode, ended.stdout + ended.stderr
     except subprocess.TimeoutExpired as error:
         said = f"{text_of(error.stdout)}{text_of(error.stderr)}\nit did not end in its time\n"
@@ -95,6 +99,7 @@ def main(words: Sequence[str] | None = None) -> int:
     """Carries out the command."""
     parser = argparse.ArgumentParser(description="Runs modules of tests side by side.")
     parser.add_argument("folder", type=pathlib.Path)
+    parser.add_argument("modules", nargs="*", metavar="MODULE")
     parser.add_argument("--jobs", type=int, default=max(2, (os.cpu_count() or 1) - 1),
                         help="modules at a time (the processors less one, at least two)")
     parser.add_argument("--minutes", type=float, default=15.0)
@@ -102,7 +107,8 @@ def main(words: Sequence[str] | None = None) -> int:
     begin = time.monotonic()
     seconds = given.minutes * 60
     with concurrent.futures.ThreadPoolExecutor(given.jobs) as pool:
-        running = [pool.submit(run, it, given.folder, seconds) for it in modules(given.folder)]
+        names = given.modules or modules(given.folder)
+        running = [pool.submit(run, it, given.folder, seconds) for it in names]
         told = tell(it.result() for it in concurrent.futures.as_completed(running))
     wrong = [it.module for it in told if it.status]
     if wrong:

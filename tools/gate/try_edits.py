@@ -1,8 +1,7 @@
-#!/usr/bin/env python3
 """Tries wrong bodies, those of must-fail/ and more-edits/: the prover must refuse each.
 
-    tools/try_edits.py CRATE ..      those of these crates
-    tools/try_edits.py --all         those of all crates, which takes some hours
+    tools/run try_edits CRATE ..      those of these crates
+    tools/run try_edits --all         those of all crates, which takes some hours
 
 The edits are tried in a clone of the work tree's last commit; what `rt check` keeps in out/ is
 taken along. Prints a line for each edit. Status 0 where each was refused, 1 where one was not, or
@@ -27,7 +26,7 @@ import sys
 import tempfile
 from collections.abc import Iterable, Iterator, Mapping, Sequence
 
-import repository
+from tools.common import repository
 
 KEPT = repository.TOP / "out" / "edits.tsv"
 FOLDERS = ("must-fail", "more-edits")

@@ -2,10 +2,10 @@
 
 from collections.abc import Mapping
 
-from rows import forms as form
-from rows.queries import tree
-from rows.terms import Term, is_plain, quoted, written
-from rows.tokens import Name
+from tools.language import forms as form
+from tools.language.queries import tree
+from tools.language.terms import Term, is_plain, quoted, written
+from tools.language.tokens import Name
 
 NODES = {"attribute": "att", "processing-instruction": "ins", "text": "tex", "comment": "note"}
 # Beside the words of Library, those for nodes whose values have characters beyond ASCII.

@@ -6,9 +6,9 @@ import textwrap
 from collections.abc import Collection, Iterable, Iterator, Sequence
 from typing import NamedTuple
 
-from rows.terms import Term, is_plain, meaning, quoted, words, written
+from tools.common.repository import TOP
+from tools.language.terms import Term, is_plain, meaning, quoted, words, written
 
-TOP = os.path.dirname(os.path.dirname(os.path.dirname(os.path.abspath(__file__))))
 WRITING = os.path.join(TOP, "crates/xq_meaning/proofs/Writing.antt")
 PRELUDE = ("[]", "◌∷◌", "Some", "None", "Ok", "Err", "codes")
 CODES = "Rattle.xq_atoms.specs.declared.refusals.Code.TheVariants"

@@ -4,7 +4,7 @@ from __future__ import annotations
 
 from typing import NamedTuple, TypeAlias
 
-from rows.tokens import Name
+from tools.language.tokens import Name
 
 # Any expression, clause, step or test: one of the classes below.
 Form: TypeAlias = tuple[object, ...]

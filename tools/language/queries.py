@@ -9,14 +9,53 @@ from __future__ import annotations
 from collections.abc import Callable, Mapping
 from typing import TypeVar
 
-from rows.forms import (
-    And, Arrow, AttributeStep, AxisStep, Binding, Call, Comparison, Concat, ContextItem, Count,
-    Decimal, Each, Flwor, For, Form, Group, If, Integer, Key, KindTest, Let, Map, NameTest,
-    Named, NamedKindTest, Or, Order, ParentStep, Path, PrimaryStep, Product, Quantified, Range,
-    Root, Sequence, SetOperation, ShortStep, String, Sum, Unary, Union, Unnamed, Variable,
+from tools.language.forms import (
+    And,
+    Arrow,
+    AttributeStep,
+    AxisStep,
+    Binding,
+    Call,
+    Comparison,
+    Concat,
+    ContextItem,
+    Count,
+    Decimal,
+    Each,
+    Flwor,
+    For,
+    Form,
+    Group,
+    If,
+    Integer,
+    Key,
+    KindTest,
+    Let,
+    Map,
+    Named,
+    NamedKindTest,
+    NameTest,
+    Or,
+    Order,
+    ParentStep,
+    Path,
+    PrimaryStep,
+    Product,
+    Quantified,
+    Range,
+    Root,
+    Sequence,
+    SetOperation,
+    ShortStep,
+    String,
+    Sum,
+    Unary,
+    Union,
+    Unnamed,
+    Variable,
     Where,
 )
-from rows.tokens import Name, Refused, Token, tokens
+from tools.language.tokens import Name, Refused, Token, tokens
 
 Part = TypeVar("Part")
 

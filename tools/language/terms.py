@@ -9,9 +9,9 @@ import re
 from collections.abc import Callable, Iterable
 from typing import Any, TypeAlias
 
-from rows import forms as form
-from rows.queries import tree
-from rows.tokens import Name, Refused
+from tools.language import forms as form
+from tools.language.queries import tree
+from tools.language.tokens import Name, Refused
 
 # A word or a quoted text, an application, or a list.
 Term: TypeAlias = "str | tuple[Term, ...] | list[Term]"

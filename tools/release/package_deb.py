@@ -1,7 +1,6 @@
-#!/usr/bin/env python3
 """Makes a Debian package of a program of the server and of the client.
 
-    tools/package_deb.py PROGRAM FOLDER [--unproved]
+    tools/run package_deb PROGRAM FOLDER [--unproved]
 
 PROGRAM is the server as it was built; the package goes to FOLDER, and its path is printed. It has
 /usr/bin/xq_server and /usr/bin/xqs with a manual page of each and of each command of xqs, made from
@@ -23,8 +22,9 @@ import sys
 import tempfile
 from collections.abc import Iterator, Mapping, Sequence
 
-TOP = pathlib.Path(__file__).resolve().parent.parent
-CLIENT = TOP / "clients" / "python"
+from tools.common.repository import CLIENT, TOP
+from xqs.cli import COMMANDS
+
 NAME = "xq-server"
 PROGRAM = pathlib.PurePosixPath("usr/lib/xq-server/xq_server")
 PACKAGES = pathlib.PurePosixPath("usr/lib/python3/dist-packages")
@@ -157,8 +157,6 @@ def tracked(folder: str) -> list[str]:
 
 def commands() -> dict[str, str]:
     """The commands of xqs with what they do."""
-    sys.path.insert(0, str(CLIENT / "src"))
-    from xqs.cli import COMMANDS
     return {name: entry.summary for name, entry in COMMANDS.items()}
 
 

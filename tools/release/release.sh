@@ -1,8 +1,8 @@
 #!/usr/bin/env bash
 # Makes one archive of the proved program, for systems without the toolchain.
 #
-#   tools/release.sh --gate LOG [--deb]     LOG is what `rt ci` printed for this commit
-#   tools/release.sh --unproved [--deb]     of the program before any proof, to try this script
+#   tools/release/release.sh --gate LOG [--deb]     LOG is what `rt ci` printed for this commit
+#   tools/release/release.sh --unproved [--deb]     before any proof, to try this script
 #
 # With --deb a package for Debian is made beside it (dpkg-deb, help2man).
 #
@@ -12,10 +12,10 @@
 # Refused are a work tree that differs from the last commit, sources that ./serve has not proved and
 # built, and a log whose last line is not that of a whole gate that passed.
 set -euo pipefail
-top=$(cd "$(dirname "${BASH_SOURCE[0]}")/.." && pwd)
+top=$(cd "$(dirname "${BASH_SOURCE[0]}")/../.." && pwd)
 cd "$top"
-# shellcheck source=SCRIPTDIR/program.sh
-. tools/program.sh
+# shellcheck source=SCRIPTDIR/../common/program.sh
+. tools/common/program.sh
 
 fail() {
     echo "release: $1" >&2
@@ -74,7 +74,7 @@ END
 # Fills a folder with what the archive has.
 fill() {
     git ls-files -z -- README.md CHANGELOG.md CONTRIBUTING.md 'LICEN[CS]E*' 'COPYING*' docs \
-        clients xqs serve demo tools/{client.py,show_run.py,dialogue.txt,try_dialogue.py} |
+        clients xqs serve demo tools/user/{show_run.py,dialogue.txt,try_dialogue.py,take_file.sh} |
         xargs -0 cp --parents --target-directory="$1"
     install -D --mode=755 "$program" "$1/bin/xq_server${is_unproved:+_unproved}"
     release_text >"$1/RELEASE.txt"
@@ -100,7 +100,7 @@ case ${1-} in
 esac
 [ -z "$(git status --porcelain)" ] || fail "the work tree differs from the last commit"
 if [ -n "$is_unproved" ]; then
-    program=$(tools/build_unproved.py --if-built) || fail "run ./serve --unproved first"
+    program=$(tools/run build_unproved --if-built) || fail "run ./serve --unproved first"
 elif ! is_current; then
     fail "there is no proved program of these sources: run ./serve first"
 fi
@@ -119,5 +119,5 @@ mkdir -p out/release
 mv "$room/$name.tar.gz" "$room/$name.tar.gz.sha256" out/release/
 echo "out/release/$name.tar.gz"
 if [ "${1-}" = --deb ]; then
-    tools/package_deb.py "$program" out/release ${is_unproved:+--unproved}
+    tools/run package_deb "$program" out/release ${is_unproved:+--unproved}
 fi

@@ -1,8 +1,7 @@
-#!/usr/bin/env python3
 """Installs a Debian package of the server in a bare Debian, and uses it there.
 
-    tools/try_deb.py PACKAGE [--mirror URL]
-    tools/try_deb.py --program PROGRAM      of a program as it was built: makes the package first
+    tools/run try_deb PACKAGE [--mirror URL]
+    tools/run try_deb --program PROGRAM      of a program as it was built: makes the package first
 
 Wants debootstrap, root and a mirror of Debian; lintian where it is there. The bare system lies in a
 folder for temporary files, and is gone at the end. Status 1 where something is wrong, which is
@@ -20,12 +19,13 @@ import sys
 import tempfile
 from collections.abc import Sequence
 
-import package_deb
+from tools.common.repository import TOP
+from tools.release import package_deb
 
 MIRROR = "http://deb.debian.org/debian"
 SUITE = "bookworm"
 INCLUDED = "python3,adduser,man-db,bash-completion"
-STORED_RUN = pathlib.Path(__file__).resolve().parent.parent / "crates" / "xq_serve"
+STORED_RUN = TOP / "crates" / "xq_serve"
 BOOK = '<books><book id="1"><title>Ink</title></book></books>'
 STEPS = (
     ("xqs --version", "xqs "),

@@ -11,14 +11,11 @@ import pathlib
 import shutil
 import struct
 import subprocess
-import sys
 import tempfile
 from collections.abc import Iterable, Iterator, Sequence
 from dataclasses import dataclass
 
-TOP = pathlib.Path(__file__).resolve().parent.parent
-sys.path.insert(0, str(TOP / "clients" / "python" / "src"))
-from row_tables import Group, Row
+from tools.rows.tables import Group, Row
 from xqs.protocol import MAX_REPLY, MAX_REQUEST, Kind, Splitter, framed, tag_of
 
 SECONDS = 120

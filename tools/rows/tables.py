@@ -22,12 +22,13 @@ middle, after }. A reply that reads as a code has status 1, any other status 0; 
 import functools
 import pathlib
 import re
-import tomllib
 from collections.abc import Iterator, Mapping
 from dataclasses import dataclass
 from typing import Any
 
-FOLDER = pathlib.Path(__file__).resolve().parent / "rows"
+import tomllib
+
+FOLDER = pathlib.Path(__file__).resolve().parent
 DOCUMENTS = "documents.toml"
 CODE = re.compile(r"[A-Z]{4}[0-9]{4}|prof:[A-Z0-9]+")
 Given = str | list[Any] | Mapping[str, Any]

@@ -1,4 +1,4 @@
-"""Tests of build_unproved.py. Run them by `python3 -m unittest discover tools`.
+"""Tests of build_unproved.py.
 
 Those that build a program need the kit, and take half a minute.
 """
@@ -9,9 +9,9 @@ import subprocess
 import tempfile
 import unittest
 
-import build_unproved
-import repository
-from build_unproved import NotBuilt
+from tools.common import repository
+from tools.user import build_unproved
+from tools.user.build_unproved import NotBuilt
 
 AS_WATCHED = ["-O0", "-fsanitize=address"]
 KIT = ["-mllvm", "-no-x86-call-frame-opt", "-c", "-x", "ir", "module.bc", "-o", "module.o"]

@@ -1,4 +1,4 @@
-"""Tests of check_python.py. Run them by `python3 -m unittest discover tools`."""
+"""Tests of check_python.py."""
 
 import contextlib
 import io
@@ -8,7 +8,7 @@ import tempfile
 import unittest
 from unittest import mock
 
-import check_python
+from tools.gate import check_python
 
 
 class Findings(unittest.TestCase):

@@ -8,8 +8,8 @@ import tempfile
 import time
 import unittest
 
-import gate_time
-from gate_time import Limit, Part
+from tools.gate import gate_time
+from tools.gate.gate_time import Limit, Part
 
 SUMS: dict[Part, float] = {("xq_atoms", "proof"): 60.0, ("xq_tuples", "proof"): 600.0}
 

@@ -1,4 +1,4 @@
-"""Tests of lanes.py. Run them by `python3 -m unittest discover tools`."""
+"""Tests of lanes.py."""
 
 from __future__ import annotations
 
@@ -8,7 +8,7 @@ import time
 import unittest
 from collections.abc import Mapping, Sequence
 
-import lanes
+from tools.user import lanes
 
 # A small house: two crates at the bottom, a long chain over one and a short one over the other.
 HOUSE: Mapping[str, Sequence[str]] = {

@@ -1,8 +1,8 @@
-"""Tests of lighter_module.py. Run them by `python3 -m unittest discover tools`."""
+"""Tests of lighter_module.py."""
 
 import unittest
 
-from lighter_module import lighter
+from tools.user.lighter_module import lighter
 
 
 def check(name: str) -> list[str]:

@@ -1,8 +1,8 @@
-"""Tests of module_parts.py. Run them by `python3 -m unittest discover tools`."""
+"""Tests of module_parts.py."""
 
 import unittest
 
-from module_parts import SMALL, Module, Parts
+from tools.user.module_parts import SMALL, Module, Parts
 
 HEAD = ['source_filename = "rattle"\n', 'target triple = "x86_64-unknown-linux-gnu"\n']
 TAIL = ["attributes #0 = { nounwind }\n", "!llvm.ident = !{!0}\n"]

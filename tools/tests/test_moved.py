@@ -6,8 +6,8 @@ import re
 import unittest
 from collections.abc import Iterator
 
-import row_tables
-from repository import TOP
+from tools.common.repository import TOP
+from tools.rows import tables
 
 MOVED = TOP / "tools" / "rows" / "moved.txt"
 FORMER_TESTS = 179
@@ -23,8 +23,8 @@ def text_of(pattern: str) -> str:
 @functools.cache
 def names_in(table: str) -> set[str]:
     """The names that a table's parts have; none where there is no such table."""
-    path = row_tables.FOLDER / pathlib.Path(table).name
-    given = row_tables.read(path.name) if path.exists() else {}
+    path = tables.FOLDER / pathlib.Path(table).name
+    given = tables.read(path.name) if path.exists() else {}
     return {it["name"] for part in ("group", "judged", "case") for it in given.get(part, [])}
 
 

@@ -7,13 +7,16 @@ import subprocess
 import unittest
 from collections.abc import Iterator
 
-TOP = pathlib.Path(__file__).resolve().parent.parent
+from tools.common.repository import TOP
+from tools.tests.test_scripts import modules
+
 PAGES = (*sorted(TOP.glob("*.md")), *sorted(TOP.glob("docs/*.md")),
-         *sorted(TOP.glob("clients/*/*.md")))
+         *sorted(TOP.glob("clients/*/*.md")), TOP / "tools" / "README.md")
 PAST = ("CHANGELOG.md",)
 """Pages that speak of files that are gone."""
 LINK = re.compile(r"\[[^\]]*\]\(([^)\s]+)\)")
 FILE = re.compile(r"(?<![\w./-])((?:tools|bench|clients|docs|crates)/[\w./-]*\w)")
+SCRIPT = re.compile(r"\btools/run\s+(\w+)")
 SAMPLES = re.compile(r"```.*?```", re.DOTALL)
 
 
@@ -46,6 +49,12 @@ class Pages(unittest.TestCase):
                   for name in FILE.findall(file.read_text())
                   if "NAME" not in name and not any(TOP.glob(f"{name}*"))]
         self.assertEqual(absent, [])
+
+    def test_scripts_that_are_named_are_there(self) -> None:
+        known = {it.stem for it in modules()} | {"NAME"}
+        named = {it for file in PAGES for it in SCRIPT.findall(file.read_text())}
+        self.assertGreater(len(named), 20)
+        self.assertEqual(named - known, set())
 
     def test_commands_that_are_named_are_there(self) -> None:
         known = set(re.findall(r'^    "(\w+)": Entry', (

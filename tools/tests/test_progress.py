@@ -1,11 +1,11 @@
-"""Tests of progress.py. Run them by `python3 -m unittest discover tools`."""
+"""Tests of progress.py."""
 
 import pathlib
 import tempfile
 import unittest
 
-import progress
-from progress import FIRST_LOOK, Progress
+from tools.user import progress
+from tools.user.progress import FIRST_LOOK, Progress
 
 
 class CratesOfProcesses(unittest.TestCase):

@@ -1,4 +1,4 @@
-"""Tests of prove_program.py. Run them by `python3 -m unittest discover tools`.
+"""Tests of prove_program.py.
 
 Those that prove a program need the kit, and take half a minute.
 """
@@ -9,8 +9,8 @@ import tempfile
 import time
 import unittest
 
-import repository
-from prove_program import NotProved, begins, checks_at_once, free_memory, prove_and_build
+from tools.common import repository
+from tools.user.prove_program import NotProved, begins, checks_at_once, free_memory, prove_and_build
 
 GIGABYTE = 1_000_000_000
 LIBRARY = """#![tactic(auto)]

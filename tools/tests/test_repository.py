@@ -1,10 +1,10 @@
-"""Tests of repository.py. Run them by `python3 -m unittest discover tools`."""
+"""Tests of repository.py."""
 
 import pathlib
 import tempfile
 import unittest
 
-import repository
+from tools.common import repository
 
 
 class Libraries(unittest.TestCase):

@@ -8,11 +8,8 @@ import os
 import shlex
 import unittest
 
-import row_runs
-import row_tables
-from repository import PROGRAM, TOP
-
-BUILT = TOP / "crates" / PROGRAM / "out" / PROGRAM
+from tools.common.repository import BUILT
+from tools.rows import runs, tables
 
 
 def command() -> list[str]:
@@ -25,19 +22,19 @@ def command() -> list[str]:
 class RowTest(unittest.TestCase):
     """The tables, each run of their groups on a server of its own."""
 
-    def check(self, name: str, run: list[row_tables.Group]) -> None:
+    def check(self, name: str, run: list[tables.Group]) -> None:
         """Checks the replies to a run."""
         with self.subTest(table=name, group=run[0].name):
-            self.assertEqual([*row_runs.wrong(command(), run)], [])
+            self.assertEqual([*runs.wrong(command(), run)], [])
 
     def test_rows_have_their_replies(self) -> None:
-        for name in row_tables.tables():
-            for run in row_tables.runs(name):
+        for name in tables.tables():
+            for run in tables.runs(name):
                 self.check(name, run)
 
     def test_replies_are_queries_that_give_themselves(self) -> None:
-        for name in row_tables.tables():
-            self.check(name, [row_runs.read_back(row_tables.groups(name))])
+        for name in tables.tables():
+            self.check(name, [runs.read_back(tables.groups(name))])
 
 
 if __name__ == "__main__":

@@ -7,13 +7,11 @@ which the last document alone was stored.
 import unittest
 from collections.abc import Iterator, Sequence
 
-import row_edits
-import row_runs
-import row_tables
-from row_edits import Case, Kept
-from row_tables import Group, Row
-from test_rows import command
-from test_rows_files import OverFile, shown
+from tools.rows import edits, runs, tables
+from tools.rows.edits import Case, Kept
+from tools.rows.tables import Group, Row
+from tools.tests.test_rows import command
+from tools.tests.test_rows_files import OverFile, shown
 
 ROWS = ("SELECT address || ' ' || pre || ' ' || size || ' ' || level || ' ' || kind || ' ' || name "
         "|| ' ' || value FROM node2 INNER JOIN label ON label = id WHERE address <> 'a' "
@@ -21,7 +19,7 @@ ROWS = ("SELECT address || ' ' || pre || ' ' || size || ' ' || level || ' ' || k
 FRONT = Row(b"Q", b'count(doc("m")/node()[1])', 0, b"")
 # An opening keeps rows document after document. This one leaves no room for another in a megabyte:
 # its two rows take 24 bytes each, the empty name 64, and the text the rest but for less than 100.
-FULL = Row(b"S", row_tables.store_body("a", b'document {text {string-join(for $n in 1 to 10484 '
+FULL = Row(b"S", tables.store_body("a", b'document {text {string-join(for $n in 1 to 10484 '
                                        b'return "%s", "")}}' % (b"x" * 100)), 0, b"")
 A_MEGABYTE = ("--kept", "1")
 ROUND = ("first", "path", "tuple", "number", "content", "node", "function", "static")
@@ -45,7 +43,7 @@ EDITS: tuple[tuple[str, Runs, Runs], ...] = (
 
 def stored(query: str, address: str = "m") -> Row:
     """The store of a document, whichever its reply is."""
-    return Row(b"S", row_tables.store_body(address, query.encode()), 0, b"")
+    return Row(b"S", tables.store_body(address, query.encode()), 0, b"")
 
 
 def target_of(number: int) -> str:
@@ -65,10 +63,10 @@ class ChangeTest(OverFile):
 
     def run_rows(self, rows: Sequence[Row], *words: str) -> None:
         """Sends these to a server over the file, with these words; none is refused."""
-        data = b"".join(row_runs.request(1, row) for row in rows)
-        ended = row_runs.served([*self.over_file(), *words], data)
+        data = b"".join(runs.request(1, row) for row in rows)
+        ended = runs.served([*self.over_file(), *words], data)
         self.assertEqual((ended.status, ended.line), (0, ""))
-        self.assertEqual([it.status for it in row_runs.replies(ended.output)], [0] * len(rows))
+        self.assertEqual([it.status for it in runs.replies(ended.output)], [0] * len(rows))
 
     def left(self) -> str:
         """What the tables of the file hold."""
@@ -92,8 +90,8 @@ class ChangeTest(OverFile):
             self.run_rows([*(front if before else []), stored(query)], *A_MEGABYTE)
 
     def test_edits_leave_what_the_last_document_leaves(self) -> None:
-        for case in row_edits.cases():
-            queries = list(row_edits.documents(case))
+        for case in edits.cases():
+            queries = list(edits.documents(case))
             with self.subTest(case=case):
                 self.put_all(case, queries)
                 left = self.left()
@@ -203,13 +201,13 @@ class ManyTest(unittest.TestCase):
     def check(self, rows: Sequence[Row], words: Sequence[str] = ()) -> None:
         """Checks the replies of a server to these."""
         group = Group("rows", tuple(rows))
-        self.assertEqual([*row_runs.wrong([*command(), *words], [group])], [])
+        self.assertEqual([*runs.wrong([*command(), *words], [group])], [])
 
     def test_many_documents_are_those_of_the_model(self) -> None:
         self.check([*Model().rows()])
 
     def test_fifty_rounds(self) -> None:
-        rows = [row for group in row_tables.groups("worked.toml") if group.name in ROUND
+        rows = [row for group in tables.groups("worked.toml") if group.name in ROUND
                 for row in group.rows]
         self.check([*rows, Row(b"D", b"b", 0, b"dropped")] * 50)
 

@@ -9,16 +9,15 @@ import unittest
 from collections.abc import Callable, Mapping
 from typing import IO, Any
 
-import row_runs
-import row_tables
-from row_runs import Reply, request
-from row_tables import Row
-from test_rows import command
+from tools.rows import runs, tables
+from tools.rows.runs import Reply, request
+from tools.rows.tables import Row
+from tools.tests.test_rows import command
 
 SECONDS = 120
-GIVEN = row_tables.read("edges.toml")
+GIVEN = tables.read("edges.toml")
 LIST = Row(b"L", b"", 0, b"()")
-PUT = row_tables.row_of({"put": "library", "reply": "stored"})
+PUT = tables.row_of({"put": "library", "reply": "stored"})
 SERVED = ("first", "path", "node", "dropping", "last")
 FRAME_LIMIT = 1_000_000
 PIECES = (1, 2, 3, 7)
@@ -26,11 +25,11 @@ PIECES = (1, 2, 3, 7)
 
 def ended(
     words: list[str], data: bytes = b"", folder: pathlib.Path | None = None
-) -> row_runs.Ended:
+) -> runs.Ended:
     """What the program with these words writes, and how it ends."""
     done = subprocess.run(
         [*command(), *words], input=data, capture_output=True, timeout=SECONDS, cwd=folder)
-    return row_runs.Ended(done.stdout, done.returncode, done.stderr.decode().strip())
+    return runs.Ended(done.stdout, done.returncode, done.stderr.decode().strip())
 
 
 def framed(row: Row, tag: int = 1) -> bytes:
@@ -68,12 +67,12 @@ class EdgeTest(unittest.TestCase):
 
     def listed(self) -> list[Reply]:
         """What the next server over the file tells of its addresses."""
-        return row_runs.replies(ended(self.over_file(), framed(LIST)).output)
+        return runs.replies(ended(self.over_file(), framed(LIST)).output)
 
     def check_input(self, given: Mapping[str, Any]) -> None:
         """Checks the replies to an input, and how it ends."""
         found = ended([], bytes.fromhex(given["sent"]))
-        wanted = row_runs.Ended(bytes.fromhex(given["replies"]), given["status"], given["line"])
+        wanted = runs.Ended(bytes.fromhex(given["replies"]), given["status"], given["line"])
         self.assertEqual(found, wanted)
 
     def test_inputs_end_as_they_do(self) -> None:
@@ -82,7 +81,7 @@ class EdgeTest(unittest.TestCase):
                 self.check_input(given)
 
     def test_bytes_in_pieces_are_served_as_whole(self) -> None:
-        rows = [row for group in row_tables.groups("worked.toml") if group.name in SERVED
+        rows = [row for group in tables.groups("worked.toml") if group.name in SERVED
                 for row in group.rows]
         data = b"".join(framed(row, tag) for tag, row in enumerate(rows))
         whole = ended([], data).output
@@ -96,7 +95,7 @@ class EdgeTest(unittest.TestCase):
         for length in range(1, len(whole)):
             with self.subTest(length=length):
                 cut = ended(self.over_file(), whole[:length])
-                self.assertEqual(cut, row_runs.Ended(b"", 1, "xq_server: cut frame"))
+                self.assertEqual(cut, runs.Ended(b"", 1, "xq_server: cut frame"))
                 self.assertEqual(self.listed(), [Reply(1, 0, b"()")])
 
     def test_an_input_that_cannot_be_read_is_a_read_fault(self) -> None:
@@ -116,7 +115,7 @@ class EdgeTest(unittest.TestCase):
         self.assertEqual((done.returncode, done.stderr), (1, b"xq_server: write fault\n"))
 
     def test_what_it_cannot_tell_was_carried_out_and_nothing_after_it(self) -> None:
-        stores = [row_tables.row_of({"store": address, "query": "document {}", "reply": "stored"})
+        stores = [tables.row_of({"store": address, "query": "document {}", "reply": "stored"})
                   for address in "ac"]
         self.check_write_fault(self.over_file(), b"".join(map(framed, stores)))
         self.assertEqual(self.listed(), [Reply(1, 0, b'"a"')])
@@ -127,19 +126,19 @@ class EdgeTest(unittest.TestCase):
     def test_a_million_frames_are_answered_and_no_more(self) -> None:
         frame = framed(LIST)
         found = ended([], frame * (FRAME_LIMIT + 1))
-        reply = row_runs.replies(ended([], frame).output)
+        reply = runs.replies(ended([], frame).output)
         self.assertEqual((found.status, found.line), (1, "xq_server: frame limit"))
         self.assertEqual(len(found.output), FRAME_LIMIT * 11)
-        self.assertEqual(row_runs.replies(found.output[-11:]), reply)
+        self.assertEqual(runs.replies(found.output[-11:]), reply)
 
-    def each(self, name: str, check: Callable[[row_runs.Ended], None]) -> None:
+    def each(self, name: str, check: Callable[[runs.Ended], None]) -> None:
         """Checks how the program ends with each of these lists of words, and no input."""
         for words in GIVEN["words"][name]:
             with self.subTest(words=words):
                 check(ended(words, folder=self.folder))
 
     def test_words_that_are_none_of_its_own(self) -> None:
-        bad = row_runs.Ended(b"", 2, "xq_server: bad command line")
+        bad = runs.Ended(b"", 2, "xq_server: bad command line")
         self.each("bad", lambda found: self.assertEqual(found, bad))
         self.assertEqual(list(self.folder.iterdir()), [])
 
@@ -148,7 +147,7 @@ class EdgeTest(unittest.TestCase):
         self.each("help", lambda found: self.assertEqual((found.status, found.line), (0, "")))
 
     def test_words_that_name_a_file(self) -> None:
-        self.each("file", lambda found: self.assertEqual(found, row_runs.Ended(b"", 0, "")))
+        self.each("file", lambda found: self.assertEqual(found, runs.Ended(b"", 0, "")))
         self.assertTrue((self.folder / "x").exists())
 
 

@@ -13,13 +13,12 @@ import unittest
 from collections.abc import Iterator, Mapping
 from typing import Any
 
-import row_runs
-import row_tables
-from row_tables import Group
-from test_rows import command
+from tools.rows import runs, tables
+from tools.rows.tables import Group
+from tools.tests.test_rows import command
 
 NOT_OPENED = (1, "xq_server: cannot open the store")
-GIVEN = row_tables.read("files.toml")
+GIVEN = tables.read("files.toml")
 
 
 @contextlib.contextmanager
@@ -73,13 +72,13 @@ class FileTest(OverFile):
 
     def check_rows(self, name: str, given: list[Any]) -> None:
         """Checks the replies of a server over the file to these rows."""
-        group = Group(name, tuple(map(row_tables.row_of, given)))
-        self.assertEqual([*row_runs.wrong(self.over_file(), [group])], [])
+        group = Group(name, tuple(map(tables.row_of, given)))
+        self.assertEqual([*runs.wrong(self.over_file(), [group])], [])
 
     def is_opened(self) -> bool:
         """Whether a server opens the file; one that is refused stays as it was."""
         before = content(self.folder)
-        ended = row_runs.served(self.over_file(), b"")
+        ended = runs.served(self.over_file(), b"")
         if (ended.status, ended.line) != NOT_OPENED:
             self.assertEqual((ended.status, ended.line), (0, ""))
             return True
@@ -149,19 +148,19 @@ class FileTest(OverFile):
             shutil.copy(group.base, self.path)
         for row in group.rows:
             alone = Group(group.name, (row,))
-            self.assertEqual([*row_runs.wrong(self.over_file(), [alone])], [])
+            self.assertEqual([*runs.wrong(self.over_file(), [alone])], [])
 
     def test_each_request_finds_what_those_before_it_left(self) -> None:
-        for group in row_tables.groups("kept.toml"):
+        for group in tables.groups("kept.toml"):
             with self.subTest(group.name):
                 self.check_kept(group)
 
     def test_tables_of_stores_hold_on_files(self) -> None:
-        for run in row_tables.runs("stores.toml"):
+        for run in tables.runs("stores.toml"):
             if run[0].name != "room":
                 self.clear()
                 with self.subTest(run[0].name):
-                    self.assertEqual([*row_runs.wrong(self.over_file(), run)], [])
+                    self.assertEqual([*runs.wrong(self.over_file(), run)], [])
 
 
 if __name__ == "__main__":

@@ -1,12 +1,12 @@
-"""Tests of rt_all.py. Run them by `python3 -m unittest discover tools`."""
+"""Tests of rt_all.py."""
 
 import pathlib
 import tempfile
 import unittest
 from unittest import mock
 
-import repository
-import rt_all
+from tools.common import repository
+from tools.user import rt_all
 
 # A script that stands for the kit's, and ends with 1 where it takes its first look.
 SCRIPT = """import types

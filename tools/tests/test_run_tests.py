@@ -6,7 +6,7 @@ import pathlib
 import tempfile
 import unittest
 
-import run_tests
+from tools.gate import run_tests
 
 GOOD = "import unittest\n\nclass T(unittest.TestCase):\n    def test(self) -> None:\n        pass\n"
 

@@ -9,7 +9,8 @@ import subprocess
 import tempfile
 import unittest
 
-TOP = pathlib.Path(__file__).resolve().parent.parent
+from tools.common.repository import TOP
+
 PROGRAM = "#!/bin/sh\nprintf '%s\\n' \"$@\"\n"
 
 

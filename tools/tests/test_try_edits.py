@@ -6,8 +6,8 @@ import pathlib
 import tempfile
 import unittest
 
-import try_edits
-from try_edits import Edit, Outcome, Record
+from tools.gate import try_edits
+from tools.gate.try_edits import Edit, Outcome, Record
 
 LINES = [
     "rt: must-fail xq_a/one.edit: refused, as it must be: ./src/lib.rt:3:5: error: not proved",

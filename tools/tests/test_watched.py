@@ -1,4 +1,4 @@
-"""Tests of watched.py. Run them by `python3 -m unittest discover tools`."""
+"""Tests of watched.py."""
 
 import os
 import pathlib
@@ -9,19 +9,22 @@ import tempfile
 import time
 import unittest
 
-import watched
+from tools.common import watched
+from tools.common.repository import environment
 
 # A process that waits for a command, and whose own parent may end.
-WAITS = """import sys; sys.path.insert(0, sys.argv[1]); import watched
+WAITS = """import sys
+from tools.common import watched
 watched.end_by_signals()
-with open(sys.argv[2], "wb") as log:
+with open(sys.argv[1], "wb") as log:
     sys.exit(watched.run(["sh", "-c", "echo $$; exec sleep 60"], log))"""
 # A process that holds a file until its standard input ends.
-HOLDS = """import pathlib, sys; sys.path.insert(0, sys.argv[1]); import watched
-with watched.lone(pathlib.Path(sys.argv[2]), lambda: None):
+HOLDS = """import pathlib, sys
+from tools.common import watched
+with watched.lone(pathlib.Path(sys.argv[1]), lambda: None):
     print("held", flush=True)
     sys.stdin.read()"""
-WORDS = [sys.executable, "-c", WAITS, str(pathlib.Path(__file__).parent)]
+WORDS = [sys.executable, "-c", WAITS]
 
 
 def started(log: pathlib.Path) -> int:
@@ -62,14 +65,15 @@ class Run(unittest.TestCase):
         self.assertIn(["sleep", "0.7", ""], seen)
 
     def test_a_signal_ends_the_command(self) -> None:
-        with subprocess.Popen([*WORDS, self.log]) as waits:
+        with subprocess.Popen([*WORDS, self.log], env=environment()) as waits:
             pid = started(self.log)
             waits.send_signal(signal.SIGTERM)
         self.assertEqual(waits.returncode, 128 + signal.SIGTERM)
         self.assertTrue(has_ended(pid))
 
     def test_it_ends_with_the_parent(self) -> None:
-        with subprocess.Popen(["sh", "-c", '"$@" & wait', "", *WORDS, self.log]) as parent:
+        words = ["sh", "-c", '"$@" & wait', "", *WORDS, str(self.log)]
+        with subprocess.Popen(words, env=environment()) as parent:
             pid = started(self.log)
             os.kill(parent.pid, signal.SIGKILL)
         self.assertTrue(has_ended(pid))
@@ -79,9 +83,11 @@ class Lone(unittest.TestCase):
     def test_a_second_process_waits_and_says_so(self) -> None:
         with tempfile.TemporaryDirectory() as folder:
             path = pathlib.Path(folder, "below", "lock")
-            words = [sys.executable, "-c", HOLDS, str(pathlib.Path(__file__).parent), str(path)]
+            words = [sys.executable, "-c", HOLDS, str(path)]
             pipe = subprocess.PIPE
-            with subprocess.Popen(words, stdin=pipe, stdout=pipe, text=True) as holder:
+            with subprocess.Popen(
+                words, stdin=pipe, stdout=pipe, text=True, env=environment()
+            ) as holder:
                 assert holder.stdin is not None and holder.stdout is not None
                 self.assertEqual(holder.stdout.readline(), "held\n")
                 with watched.lone(path, holder.stdin.close):

@@ -1,14 +1,13 @@
-#!/usr/bin/env python3
 """Runs what is only tested and needs more than the gate: Debian packages, a corpus, sqlite3, time.
 
-    tools/after_gate.py [--server COMMAND] [--gate CLONE] [--corpus FOLDER] [--long] [NAME ..]
+    tools/run after_gate [--server COMMAND] [--gate CLONE] [--corpus FOLDER] [--long] [NAME ..]
 
 Without names all trials are run; `--list` prints them. COMMAND starts a server with documents in
 memory; without it that is the program which ./serve built, if it is of the sources as they are.
 With CLONE, in which `rt ci` ran, the trials that build programs of their own build them over what
-that gate proved (tools/over_gate.py). FOLDER is the corpus, which lies beside this repository. With
---long the soak lasts an hour, and the trial of several servers that are killed ten minutes; a
-minute each otherwise. XQS_TRIAL_SECONDS is how long the second one lasts in any case.
+that gate proved (tools/trials/over_gate.py). FOLDER is the corpus, which lies beside this
+repository. With --long the soak lasts an hour, and the trial of several servers that are killed ten
+minutes; a minute each otherwise. XQS_TRIAL_SECONDS is how long the second one lasts in any case.
 
 Nothing is installed. A trial whose needs are not there is left out, and the last lines say which
 and why. What a trial prints is shown where it fails. The status is 1 where one failed.
@@ -26,8 +25,8 @@ import time
 from collections.abc import Callable, Iterator
 from dataclasses import dataclass, field
 
-TOP = pathlib.Path(__file__).resolve().parent.parent
-CLIENT = TOP / "clients" / "python"
+from tools.common.repository import BUILT, CLIENT, TOP, environment
+
 PYTHONS = (sys.executable, "/usr/bin/python3")
 PACKAGES = {
     "test_cluster": ("aio_pika",), "test_cluster_amqp": ("aio_pika",),
@@ -54,6 +53,11 @@ GROWTHS: dict[str, list[str]] = {
 """The rows over which each allocation of the program is refused in turn."""
 LAST_LINES = 60
 TRIAL_SECONDS = "XQS_TRIAL_SECONDS"
+
+
+def script(module: str, *words: str) -> list[str]:
+    """The words that run a module of this repository, or of Python."""
+    return ["python3", "-P", "-m", module, *words]
 
 
 @dataclass(frozen=True)
@@ -108,13 +112,13 @@ def proved(given: Given) -> str:
 def client_trials(given: Given) -> Iterator[Trial]:
     """The client's tests that take long, and those that want packages of Debian's."""
     server = {"XQS_SERVER": shlex.join(given.server)}
-    tests = ["python3", "-m", "unittest"]
+    tests = script("unittest")
     long = server | {"XQS_LONG": "1"}
     yield Trial("client_long", tests, wants=served, folder=CLIENT, environment=long)
     seconds = os.environ.get(TRIAL_SECONDS, "600" if given.is_long else "60")
     yield Trial("servers", [*tests, "tests.test_mux_servers.TrialTest"], wants=served,
                 folder=CLIENT, environment=server | {TRIAL_SECONDS: seconds})
-    yield Trial("servers_bounds", ["python3", "bench/mux.py", "--", *given.server], wants=served)
+    yield Trial("servers_bounds", script("bench.mux", "--", *given.server), wants=served)
     for path in sorted((CLIENT / "with_packages").glob("test_*.py")):
         words = [*tests, "discover", "-s", "with_packages", "-p", path.name]
         yield Trial(
@@ -131,32 +135,34 @@ def program_trials(given: Given) -> Iterator[Trial]:
     """The scripts that run the program, or any server."""
     server = shlex.join(given.server)
     corpus = str(given.corpus / "public.jsonl")
-    yield Trial("cluster_page", ["python3", "tools/run_cluster_page.py", "--server", server],
-                ("aio_pika",), ("/usr/lib/rabbitmq/bin/rabbitmq-server", "ip", "nsenter"), as_root)
-    yield Trial("dialogue", ["python3", "tools/try_dialogue.py", *given.server], wants=served)
-    yield Trial("file", ["python3", "tools/try_file.py"], (), ("sqlite3",), built)
-    yield Trial("kills", ["python3", "tools/kill_often.py"], wants=built)
+    yield Trial("cluster_page", script("run_cluster_page", "--server", server), ("aio_pika",),
+                ("/usr/lib/rabbitmq/bin/rabbitmq-server", "ip", "nsenter"), as_root)
+    yield Trial("dialogue", script("tools.user.try_dialogue", *given.server), wants=served)
+    yield Trial("file", script("tools.trials.try_file"), (), ("sqlite3",), built)
+    yield Trial("kills", script("tools.trials.kill_often"), wants=built)
     for name, words in GROWTHS.items():
-        yield Trial(name, ["python3", "tools/refuse_each_growth.py", *words], (), ("cc",), built)
-    rows = ["python3", "-m", "unittest", "discover", "-s", "tools", "-p", "test_rows*.py"]
+        growths = script("tools.trials.refuse_each_growth", *words)
+        yield Trial(name, growths, (), ("cc",), built)
+    found = ("discover", "-t", str(TOP), "-s", str(TOP / "tools" / "tests"), "-p", "test_rows*.py")
+    rows = script("unittest", *found)
     yield Trial("rows", rows, wants=served, environment={"XQS_SERVER": server})
     seconds = "3600" if given.is_long else "60"
-    yield Trial("soak", ["python3", "tools/soak.py", "--seconds", seconds], wants=built)
-    yield Trial("limits", ["python3", "bench/limits.py"], wants=built)
-    yield Trial("language", ["python3", "tools/check_language.py"])
+    yield Trial("soak", script("tools.trials.soak", "--seconds", seconds), wants=built)
+    yield Trial("limits", script("bench.limits"), wants=built)
+    yield Trial("language", script("tools.gate.check_language"))
     ask = ["python3", str(given.corpus / "run_corpus.py"), "--server", server]
     yield Trial("corpus", ask, wants=queried)
     second = [str(given.corpus / name) for name in ("edition2.jsonl", "edition2docs.jsonl")]
     yield Trial("corpus_arrows", [*ask, "--corpus", second[0], "--docs", second[1]], wants=queried)
-    read_back = ["python3", "tools/corpus.py", "read-back", corpus, "--server", server]
+    read_back = script("tools.trials.corpus", "read-back", corpus, "--server", server)
     yield Trial("read_back", read_back, wants=queried)
-    yield Trial("read_back_rows", ["python3", "tools/read_rows_back.py", "--server", server],
+    yield Trial("read_back_rows", script("tools.trials.read_rows_back", "--server", server),
                 wants=queried)
 
 
 def release_trials(given: Given) -> Iterator[Trial]:
     """The package for Debian, installed in a bare system."""
-    words = ["python3", "tools/try_deb.py", "--program", *given.server[:1]]
+    words = script("tools.release.try_deb", "--program", *given.server[:1])
     yield Trial("debian_package", words, (), ("debootstrap", "help2man", "dpkg-deb"), as_root_built)
 
 
@@ -167,10 +173,10 @@ def as_root_built(given: Given) -> str:
 
 def library_trials(given: Given) -> Iterator[Trial]:
     """The scripts that build a program of their own over proved libraries."""
-    over = ["python3", "tools/over_gate.py", given.gate or ""]
-    yield Trial("stock_reader", [*over, "tools/read_file.sh"], (), ("rt", "sqlite3"), proved)
-    yield Trial("allocations", [*over, "tools/each_allocation.sh"], (), ("rt", "cc"), proved)
-    yield Trial("views", [*over, "python3", "tools/try_view.py"], (), ("rt",), proved)
+    over = script("tools.trials.over_gate", given.gate or "")
+    yield Trial("stock_reader", [*over, "tools/trials/read_file.sh"], (), ("rt", "sqlite3"), proved)
+    yield Trial("allocations", [*over, "tools/trials/each_allocation.sh"], (), ("rt", "cc"), proved)
+    yield Trial("views", [*over, *script("tools.trials.try_view")], (), ("rt",), proved)
 
 
 def python_with(packages: tuple[str, ...]) -> str | None:
@@ -201,7 +207,7 @@ def run(trial: Trial) -> bool:
     with tempfile.TemporaryFile("w+", errors="replace") as output:
         status = subprocess.run(
             words, cwd=trial.folder, stdin=subprocess.DEVNULL, stdout=output,
-            stderr=subprocess.STDOUT, env=os.environ | trial.environment).returncode
+            stderr=subprocess.STDOUT, env=environment() | trial.environment).returncode
         output.seek(0)
         lines = output.read().splitlines()
     took = time.monotonic() - begin
@@ -213,17 +219,16 @@ def run(trial: Trial) -> bool:
 
 def is_current() -> bool:
     """Whether the program is there, and of the sources as they are."""
-    script = 'top=$1; . "$top/tools/program.sh"; is_current'
+    script = 'top=$1; . "$top/tools/common/program.sh"; is_current'
     return not subprocess.run(["bash", "-c", script, "bash", str(TOP)]).returncode
 
 
 def given_by(words: argparse.Namespace) -> Given:
     """What the command line gives."""
-    program = TOP / "crates" / "xq_serve" / "out" / "xq_serve"
     server = shlex.split(words.server or "")
     current = is_current()
     if not server and current:
-        server = [str(program)]
+        server = [str(BUILT)]
     corpus = pathlib.Path(words.corpus).resolve()
     gate = words.gate and os.path.abspath(words.gate)
     return Given(server, gate, corpus, current, words.long)

@@ -1,7 +1,6 @@
-#!/usr/bin/env python3
 """Asks two programs of the server the same random requests, and compares their replies.
 
-    tools/compare_programs.py OLD NEW [--seed N] [--documents N] [--requests N]
+    tools/run compare_programs OLD NEW [--seed N] [--documents N] [--requests N]
 
 Documents have up to 1,500 nodes and few names, so that steps by a name find much. The requests are
 paths with predicates, from documents, from nodes and in loops, orders, groups, copies, constructors
@@ -14,7 +13,7 @@ import random
 import sys
 from collections.abc import Iterator
 
-import harness
+from tools.common import harness
 
 NAMES = ("a", "b", "c", "book", "t")
 SIZES = (20, 150, 400, 1500)

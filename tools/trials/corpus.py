@@ -1,9 +1,8 @@
-#!/usr/bin/env python3
 """What a corpus of queries with agreed answers says of this repository.
 
-    tools/corpus.py check CORPUS                      the static checks
-    tools/corpus.py compute FOLDER SET [--most N]     the definitions, computed by the prover
-    tools/corpus.py read-back CORPUS .. [--server COMMAND]     replies, sent back as queries
+    tools/run corpus check CORPUS                      the static checks
+    tools/run corpus compute FOLDER SET [--most N]     the definitions, computed by the prover
+    tools/run corpus read-back CORPUS .. [--server COMMAND]     replies, sent back as queries
 
 A corpus has lines of JSON with the set of documents as s, a query as q, and its answer as a or its
 code as e; docs.jsonl beside it has each set's documents by address as docs. `run_corpus.py`, which
@@ -13,7 +12,7 @@ lies beside the corpus, asks a server its queries. Status 1 where something diff
 import argparse
 import sys
 
-from corpora import check, compute, read_back
+from tools.trials.corpora import check, compute, read_back
 
 
 def main() -> int:

@@ -1,18 +1,18 @@
 #!/usr/bin/env bash
 # Runs tests of refused allocations again and again, refusing the first allocation, then the second,
 # and so on, until a run meets no refusal. Each run has to pass: what was refused changed nothing,
-# and succeeds when it is asked again. tools/refuse_each_growth.py does so over the program, in
-# memory and on files.
+# and succeeds when it is asked again. refuse_each_growth.py does so over the program, in memory and
+# on files.
 #
-#   tools/each_allocation.sh [CRATE TEST..]
+#   tools/trials/each_allocation.sh [CRATE TEST..]
 #
 # CRATE and TESTs are those of another crate than the store's calls, where they are named. It needs
 # a C compiler; the tests are built by `rt test` first.
 set -eu
-top=$(cd "$(dirname "$0")/.." && pwd)
+top=$(cd "$(dirname "$0")/../.." && pwd)
 work=$(mktemp -d)
 trap 'rm -rf "$work"' EXIT
-cc -shared -fPIC -O1 -o "$work/refuse.so" "$top/tools/refuse.c" -ldl
+cc -shared -fPIC -O1 -o "$work/refuse.so" "$top/tools/trials/refuse.c" -ldl
 
 crate=${1:-xq_store_tests}
 [ $# -gt 1 ] && shift || set -- tests::each_allocation_in_memory

@@ -1,7 +1,6 @@
-#!/usr/bin/env python3
 """Kills a server on a file at random moments, and looks at what the file holds.
 
-    tools/kill_often.py [TIMES [SEED]]      200 times where none is named
+    tools/run kill_often [TIMES [SEED]]      200 times where none is named
 
 A round starts the server on the file, reads all its documents, and sends stores and drops until the
 server is killed, between two frames or inside one; each tenth server is killed sooner, while it
@@ -9,7 +8,6 @@ opens the file or tells its documents. The next server must find the documents a
 the frame under way or after it. The script prints how often the file opened, and what it held; its
 status is 0 where every server found the one or the other.
 """
-import os
 import pathlib
 import random
 import sys
@@ -18,8 +16,8 @@ import threading
 import time
 from typing import TypeAlias
 
-sys.path.insert(0, os.path.dirname(os.path.abspath(__file__)))
-from harness import LIBRARY, Server, built, store
+from tools.common import command_line
+from tools.common.harness import LIBRARY, Server, built, store
 
 # By address, the text of each document.
 Documents: TypeAlias = dict[bytes, bytes]
@@ -79,37 +77,46 @@ def judge(found: Documents, before: Documents, after: Documents) -> str:
     return "after" if found == after else "neither"
 
 
-def main() -> int:
-    times = int(sys.argv[1]) if len(sys.argv) > 1 else 200
-    chance = random.Random(int(sys.argv[2]) if len(sys.argv) > 2 else time.time_ns())
-    program = built()
+def kill(command: list[object], times: int, chance: random.Random) -> dict[str, int]:
+    """Kills servers so many times; how often each thing was found."""
     counts = dict.fromkeys(
         ("opens", "before", "after", "neither", "refused", "killed before the first frame"), 0)
+    before: Documents = {}
+    after: Documents = {}
+    rounds = 0
+    while rounds <= times:
+        server = Server(command)
+        timer = threading.Timer(chance.random() * LATEST_KILL, server.kill)
+        if chance.random() < 0.1:
+            timer.start()
+        found = held(server)
+        if found is None:
+            status, _line = server.end()
+            counts["killed before the first frame" if status < 0 else "refused"] += 1
+            continue
+        counts["opens"] += 1
+        counts[judge(found, before, after)] += 1
+        rounds += 1
+        if rounds <= times:
+            if not timer.is_alive() and not timer.finished.is_set():
+                timer.start()
+            before, after = send_until_killed(server, chance, found)
+        else:
+            timer.cancel()
+        server.end()
+    return counts
+
+
+def main() -> int:
+    """Kills servers of the built program, and prints what was found."""
+    words = command_line.parser(__doc__)
+    words.add_argument("times", nargs="?", type=int, default=200)
+    words.add_argument("seed", nargs="?", type=int, default=time.time_ns())
+    given = words.parse_args()
+    program = built()
     with tempfile.TemporaryDirectory() as folder:
         command = [program, "--file", pathlib.Path(folder) / "x.db"]
-        before: Documents = {}
-        after: Documents = {}
-        rounds = 0
-        while rounds <= times:
-            server = Server(command)
-            timer = threading.Timer(chance.random() * LATEST_KILL, server.kill)
-            if chance.random() < 0.1:
-                timer.start()
-            found = held(server)
-            if found is None:
-                status, _line = server.end()
-                counts["killed before the first frame" if status < 0 else "refused"] += 1
-                continue
-            counts["opens"] += 1
-            counts[judge(found, before, after)] += 1
-            rounds += 1
-            if rounds <= times:
-                if not timer.is_alive() and not timer.finished.is_set():
-                    timer.start()
-                before, after = send_until_killed(server, chance, found)
-            else:
-                timer.cancel()
-            server.end()
+        counts = kill(command, given.times, random.Random(given.seed))
     for name, count in counts.items():
         print("%-32s %d" % (name, count))
     return 1 if counts["neither"] or counts["refused"] else 0

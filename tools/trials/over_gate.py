@@ -1,7 +1,6 @@
-#!/usr/bin/env python3
 """Runs a command in which `rt run`, `rt test` and `rt check` go over libraries that a gate proved.
 
-    tools/over_gate.py CLONE COMMAND ..       tools/over_gate.py ../gate python3 bench/statics.py
+    tools/run over_gate CLONE COMMAND ..       tools/run over_gate ../gate tools/run statics
 
 CLONE is a clone in which `rt ci` ran or runs: it leaves each library that it proved in
 crates/NAME/out/rlib. The command's own program, or its tests, are proved and built over these, so
@@ -10,15 +9,21 @@ would prove each library anew. The clone's crates have to be those of the work t
 verdict: nothing compares what CLONE holds with what `rt ci` said of it.
 """
 
+import argparse
 import os
+import pathlib
+import shlex
 import shutil
 import subprocess
 import sys
 import tempfile
 from typing import NoReturn
 
-from repository import all_below, libraries
+from tools.common import command_line
+from tools.common.repository import TOP, all_below, libraries
 
+# The word by which this script is called in the place of `rt`.
+AS_RT = "--as-rt"
 KIT = os.environ.get("OVER_GATE_KIT") or os.path.dirname(
     os.path.dirname(os.path.realpath(shutil.which("rt") or "")))
 
@@ -70,18 +75,30 @@ def stand_in(clone: str, words: list[str]) -> NoReturn:
     os.execv(program, [program] + given)
 
 
+def put_stand_in(path: pathlib.Path) -> None:
+    """Puts there a command that calls this script in the place of `rt`."""
+    python = shlex.join([f"PYTHONPATH={TOP}", sys.executable, "-P", "-m", "tools.trials.over_gate"])
+    path.write_text(f'#!/bin/sh\nexec env {python} {AS_RT} "$@"\n', encoding="utf-8")
+    path.chmod(0o755)
+
+
 def main() -> int:
+    """Runs the command; gives its status. Or stands in for `rt`."""
     clone = os.environ.get("OVER_GATE")
-    if clone and os.path.basename(sys.argv[0]) == "rt":
-        stand_in(clone, sys.argv[1:])
-    if len(sys.argv) < 3 or not os.path.isfile(os.path.join(sys.argv[1], "crates.txt")):
-        sys.exit(__doc__)
+    if clone and sys.argv[1:2] == [AS_RT]:
+        stand_in(clone, sys.argv[2:])
+    parser = command_line.parser(__doc__)
+    parser.add_argument("clone")
+    parser.add_argument("command", nargs=argparse.REMAINDER)
+    given = parser.parse_args()
+    if not given.command or not os.path.isfile(os.path.join(given.clone, "crates.txt")):
+        parser.error("it wants a clone, and a command to run")
     with tempfile.TemporaryDirectory() as room:
-        os.symlink(os.path.abspath(__file__), os.path.join(room, "rt"))
-        os.environ["OVER_GATE"] = os.path.abspath(sys.argv[1])
+        put_stand_in(pathlib.Path(room, "rt"))
+        os.environ["OVER_GATE"] = os.path.abspath(given.clone)
         os.environ["OVER_GATE_KIT"] = KIT
         os.environ["PATH"] = room + ":" + os.environ["PATH"]
-        return subprocess.run(sys.argv[2:]).returncode
+        return subprocess.run(given.command).returncode
 
 
 if __name__ == "__main__":

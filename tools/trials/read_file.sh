@@ -3,9 +3,9 @@
 # sqlite3) read it: its tables have to be those of edition 2 with the four labels and the document's
 # eight rows, and the file has to be sound.
 #
-#   tools/read_file.sh [FOLDER]       FOLDER as for bench/store/run.sh
+#   tools/trials/read_file.sh [FOLDER]       FOLDER as for bench/store/run.sh
 set -eu
-top=$(cd "$(dirname "$0")/.." && pwd)
+top=$(cd "$(dirname "$0")/../.." && pwd)
 work=${1:-$(mktemp -d)}
 program=$("$top/bench/store/build.sh" "$work")
 rm -f "$work"/library.db*

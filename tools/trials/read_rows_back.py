@@ -1,7 +1,6 @@
-#!/usr/bin/env python3
 """Sends the replies of the worked rows back as queries, over no documents: each gives itself.
 
-    tools/read_rows_back.py [--server COMMAND]     without it the program that ./serve built
+    tools/run read_rows_back [--server COMMAND]     without it the program that ./serve built
 
 Of the queries whose reply has status 0 and at most 1,048,576 bytes. Status 1 where one differs.
 """
@@ -10,8 +9,8 @@ import argparse
 import shlex
 import sys
 
-from harness import Server, built
-from row_tables import worked
+from tools.common.harness import Server, built
+from tools.rows.tables import worked
 
 LONGEST_QUERY = 1_048_576
 

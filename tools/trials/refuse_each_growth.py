@@ -1,14 +1,13 @@
-#!/usr/bin/env python3
 """Refuses each growth of the program's memory in turn, over the worked rows, and judges each reply.
 
-    tools/refuse_each_growth.py [--program PATH] [--file] [--first N] [--last N] [--every N]
+    tools/run refuse_each_growth [--program PATH] [--file] [--first N] [--last N] [--every N]
         [--table NAME ..]
 
 One server gets the worked rows in order, a frame that is no request, three requests that tell the
 documents, and a length over the limit; with --table a server gets each run of the table's groups in
 their place, each query twice, so that what was refused is asked again at once. Of all its
 allocations one is refused: in memory, the process forks at each, and the child's is refused
-(tools/refuse.c); with --file there is a run over a new file for each, or over a copy of the one
+(refuse.c); with --file there is a run over a new file for each, or over a copy of the one
 that the table names. Such a run has to end by saying that there was no room, after whole replies;
 or the frame that met the refusal has status 2, each one before it its own reply, and each one after
 it the reply of a server that never got that frame; where the database has shut, the later ones may
@@ -34,12 +33,13 @@ import time
 from collections.abc import Iterator, Sequence
 from dataclasses import dataclass
 
-from harness import built
-from row_runs import Reply, request, whole_replies as replies
-from row_tables import Row, runs, worked
+from tools.common.harness import built
+from tools.common.repository import TOP
+from tools.rows.runs import Reply, request
+from tools.rows.runs import whole_replies as replies
+from tools.rows.tables import Row, runs, worked
 from xqs.protocol import framed
 
-TOP = pathlib.Path(__file__).resolve().parent.parent
 TOLD = (Row(b"L", b"", 0, b""), Row(b"Q", b'doc("a")', 0, b""), Row(b"Q", b'doc("b")', 0, b""))
 NO_REQUEST, TOO_LONG = b"\xaa\xbb", struct.pack(">I", 1_048_833)
 WANTS = (b"memory", b"store")
@@ -266,7 +266,7 @@ def checked(program: Program, words: Sequence[str]) -> tuple[Ended, int]:
 def compiled(folder: pathlib.Path) -> pathlib.Path:
     """The allocator that refuses."""
     library = folder / "refuse.so"
-    source = TOP / "tools" / "refuse.c"
+    source = TOP / "tools" / "trials" / "refuse.c"
     words = ["cc", "-shared", "-fPIC", "-O1", "-o", str(library), str(source), "-ldl"]
     subprocess.run(words, check=True)
     return library

@@ -1,13 +1,12 @@
-#!/usr/bin/env python3
 """Serves random frames for a long time, in memory and on a file, and compares each reply.
 
-    tools/soak.py [--seconds N] [--seed N] [--program PATH]      an hour where no length is named
+    tools/run soak [--seconds N] [--seed N] [--program PATH]      an hour where no length is named
 
 The requests are drawn by the seed: stores, copies, drops, queries and refusals, some sent ahead.
-What each has to be answered says a model that is kept beside (tools/soak_model.py). A server in
-memory runs on up to its limit of frames; one on a file is killed again and again, at any moment, or
-ends in order, and the next has to find the documents as they were before a frame under way or after
-it. A line a minute has the counts and the resident memory. The status is 1 where a reply or a
+What each has to be answered says a model that is kept beside (soak_model.py). A server in memory
+runs on up to its limit of frames; one on a file is killed again and again, at any moment, or ends
+in order, and the next has to find the documents as they were before a frame under way or after it.
+A line a minute has the counts and the resident memory. The status is 1 where a reply or a
 document is another one, or where memory grew: the most of the second half of the time, in either
 server, is over a quarter and over 32 MB more than that of the first.
 """
@@ -21,8 +20,8 @@ import threading
 import time
 from dataclasses import dataclass, field
 
-from harness import Server, built, frame
-from soak_model import Documents, Generator, Request, printed
+from tools.common.harness import Server, built, frame
+from tools.trials.soak_model import Documents, Generator, Request, printed
 
 MOST_FRAMES = 990_000
 MOST_AHEAD = 16

@@ -1,8 +1,7 @@
-#!/usr/bin/env python3
 """Starts the server on files, ends it, and starts it again: the documents are there; and on files
 that it must refuse.
 
-    tools/try_file.py
+    tools/run try_file
 
 Each line says what was tried, and `ok` or what was found in place of it. The status is 0 where all
 is well.
@@ -17,8 +16,9 @@ import subprocess
 import sys
 import tempfile
 
-sys.path.insert(0, os.path.dirname(os.path.abspath(__file__)))
-from harness import LIBRARY, Server, built, store
+from tools.common import command_line
+from tools.common.harness import LIBRARY, Server, built, store
+from tools.common.repository import TOP
 
 REFUSED = (1, "xq_server: cannot open the store\n")
 # The library under `b`, as the last program of edition 1 (501483a) stored it in a new file.
@@ -268,7 +268,7 @@ def names_of_files(program: pathlib.Path, folder: pathlib.Path) -> None:
 
 def taken_over(program: pathlib.Path, old: pathlib.Path, new: pathlib.Path, wanted: bytes) -> None:
     """take_file.sh copies a file, and the copy is served with this document under `b`."""
-    script = os.path.join(os.path.dirname(os.path.abspath(__file__)), "take_file.sh")
+    script = str(TOP / "tools" / "user" / "take_file.sh")
     taken = subprocess.run([script, old, new], capture_output=True)
     check("take_file.sh copies it",
           (taken.returncode, taken.stdout), (0, b"1 documents taken over\n"))
@@ -342,6 +342,8 @@ def unwritable(program: pathlib.Path, folder: pathlib.Path, path: pathlib.Path) 
 
 
 def main() -> int:
+    """Tries files, one kind after another; status 1 where something is wrong."""
+    command_line.parser(__doc__).parse_args()
     program = built()
     with tempfile.TemporaryDirectory() as name:
         folder = pathlib.Path(name)

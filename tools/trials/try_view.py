@@ -1,7 +1,6 @@
-#!/usr/bin/env python3
 """Tries to write to a store while a view has it: the compiler refuses that, before any proof.
 
-    tools/try_view.py
+    tools/run try_view
 
 A program over copies of the crates puts a document, reads the addresses of a view, and puts the
 document again once the view has given the store back: that compiles and runs. With a `put`, a
@@ -14,8 +13,8 @@ import subprocess
 import sys
 import tempfile
 
-sys.path.insert(0, os.path.dirname(os.path.abspath(__file__)))
-from workspace import begin, crates_below
+from tools.common import command_line
+from tools.common.workspace import begin, crates_below
 
 USES = ("xq_atoms", "xq_trees", "xq_store")
 PROGRAM = """\
@@ -101,6 +100,8 @@ def is_right(program: str, moved: str | None, answer: tuple[int, str, str]) -> b
 
 
 def main() -> int:
+    """Tries each program; status 1 where one is judged otherwise."""
+    command_line.parser(__doc__).parse_args()
     wrong = 0
     with tempfile.TemporaryDirectory() as scratch:
         begin(scratch, crates_below(USES), ("out", "must-fail", "more-edits"))

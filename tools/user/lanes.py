@@ -12,7 +12,7 @@ import threading
 from collections.abc import Callable, Mapping, Sequence
 from typing import Any, Protocol, TypeVar
 
-import repository
+from tools.common import repository
 
 # What a crate without a measured time counts as, in minutes.
 UNMEASURED = 1.0

@@ -7,7 +7,7 @@ import sys
 import time
 from collections.abc import Iterable, Mapping, Sequence
 
-import watched
+from tools.common import watched
 
 SECONDS_BETWEEN_LINES = 60
 LINES_SHOWN_OF_A_LOG = 20

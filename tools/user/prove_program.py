@@ -1,7 +1,6 @@
-#!/usr/bin/env python3
 """Proves and builds the program, and says on standard error how far it is.
 
-    tools/prove_program.py [CRATE]     CRATE in the program's place, as where this is tried
+    tools/run prove_program [CRATE]     CRATE in the program's place, as where this is tried
 
 `rt all check` (by rt_all.py) proves the crate and the libraries below it, several at a time, and
 keeps each in its folder out/ as it is done; `rt run` then builds the program over them. So a start
@@ -16,12 +15,10 @@ import pathlib
 import re
 import sys
 import time
-from collections.abc import Sequence
 
-import repository
-import rt_all
-import watched
-from progress import Progress, Watch, clock, expected_minutes, say, show_end
+from tools.common import command_line, repository, watched
+from tools.user import rt_all
+from tools.user.progress import Progress, Watch, clock, expected_minutes, say, show_end
 
 # Room for each check that runs: four were seen to take 3.4 to 5.5 GB, and most up to 2.
 BYTES_OF_A_CHECK = 3_500_000_000
@@ -59,8 +56,9 @@ def prove(top: pathlib.Path, crate: str, at_once: int, log_path: pathlib.Path) -
     say(begins(len(names), at_once, minutes.get(WHOLE)))
     with open(log_path, "wb") as log, open(log_path, encoding="utf-8", errors="replace") as lines:
         watch = Watch(Progress(names, minutes, time.monotonic()), lines)
-        words = [sys.executable, rt_all.__file__, "check", "--jobs", str(at_once)]
-        status = watched.run(words, log, watch.look, cwd=top / "crates" / crate)
+        words = [sys.executable, "-P", "-m", rt_all.__name__, "check", "--jobs", str(at_once)]
+        status = watched.run(words, log, watch.look, cwd=top / "crates" / crate,
+                             env=repository.environment())
     if status:
         raise NotProved("a crate was not proved")
 
@@ -89,8 +87,11 @@ def prove_and_build(top: pathlib.Path, crate: str) -> None:
     say(f"done after {clock(time.time() - begun)}")
 
 
-def main(words: Sequence[str]) -> int:
+def main() -> int:
     """Proves and builds; status 1 where that fails."""
+    words = command_line.parser(__doc__)
+    words.add_argument("crate", nargs="?", default=repository.PROGRAM)
+    crate = words.parse_args().crate
     watched.end_by_signals()
     if repository.kit() is None:
         say("the program is not built yet, and Rattle's command 'rt' is not on the PATH")
@@ -100,7 +101,7 @@ def main(words: Sequence[str]) -> int:
         say(f"proving and building the program; {LOG} is the log. Meanwhile ./serve --unproved can"
             " serve, without a proof")
         try:
-            prove_and_build(repository.TOP, words[0] if words else repository.PROGRAM)
+            prove_and_build(repository.TOP, crate)
         except (NotProved, OSError) as why:
             show_end(repository.TOP / LOG)
             say(f"{why}: {LOG} says why")
@@ -112,4 +113,4 @@ def main(words: Sequence[str]) -> int:
 
 
 if __name__ == "__main__":
-    sys.exit(main(sys.argv[1:]))
+    sys.exit(main())

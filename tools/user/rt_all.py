@@ -21,10 +21,8 @@ import types
 from collections.abc import Sequence
 from typing import Any
 
-import lanes
-import progress
-import repository
-
+from tools.common import repository
+from tools.user import lanes, progress
 
 MINUTES = pathlib.Path(__file__).with_name("proof_minutes.txt")
 

@@ -1,11 +1,13 @@
 """Sends requests to a server, and prints each with its reply, then the end.
 
-usage: show_run.py SERVER FILE     of request frames, or with the ending .txt of requests as text
+    tools/run show_run SERVER FILE     of request frames, or with the ending .txt of requests as text
 
 A text has an empty line after each request. Its first line is `store ADDRESS`, `drop ADDRESS`,
 `query` or `list`, and the lines below are the query.
 """
 
+import argparse
+import pathlib
 import struct
 import subprocess
 import sys
@@ -61,12 +63,16 @@ def shown_reply(body: bytes) -> tuple[int, str]:
 
 
 def main() -> int:
-    server, path = sys.argv[1:3]
-    with open(path, "rb") as file:
-        data = file.read()
-    if path.endswith(".txt"):
+    """Shows the run; gives the server's status."""
+    words = argparse.ArgumentParser(
+        description=__doc__, formatter_class=argparse.RawDescriptionHelpFormatter)
+    words.add_argument("server")
+    words.add_argument("file", type=pathlib.Path)
+    given = words.parse_args()
+    data = given.file.read_bytes()
+    if given.file.suffix == ".txt":
         data = frames_of(data.decode())
-    done = subprocess.run([server], input=data, stdout=subprocess.PIPE)
+    done = subprocess.run([given.server], input=data, stdout=subprocess.PIPE)
     replies = [shown_reply(body) for body in frames(done.stdout)]
     for number, body in enumerate(frames(data)):
         tag, request = shown_request(body)

@@ -2,7 +2,7 @@
 # A way back to a file that another program has written to, so that the server refuses it: copies
 # its documents into a new file. Needs stock sqlite3 (Debian package sqlite3).
 #
-#   tools/take_file.sh OLD NEW
+#   tools/user/take_file.sh OLD NEW
 #
 # OLD, with its log OLD-wal where there is one, is only read; no server may hold it. NEW must not be
 # there yet. The rows go over as they are, in the tables of OLD's edition, and the server judges
@@ -10,7 +10,7 @@
 # 1,024 bytes, as new files of the server have, and no sums.
 set -eu
 if [ $# != 2 ] || [ ! -f "$1" ] || [ -e "$2" ]; then
-    echo "usage: tools/take_file.sh OLD NEW, where OLD is a file and NEW is not there" >&2
+    echo "usage: tools/user/take_file.sh OLD NEW, where OLD is a file and NEW is not there" >&2
     exit 2
 fi
 old=$1

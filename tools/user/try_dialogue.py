@@ -2,15 +2,16 @@
 """Sends the requests of docs/PROTOCOL.md's dialogue to the server, each after the reply to the one
 before, and compares each reply with the document.
 
-    tools/try_dialogue.py [PROGRAM [WORDS]]     the program is ./serve where none is named
+    tools/run try_dialogue [PROGRAM [WORDS]]     the program is ./serve where none is named
 """
+import argparse
 import pathlib
 import re
 import subprocess
 import sys
 from collections.abc import Iterator
 
-TOP = pathlib.Path(__file__).resolve().parent.parent
+TOP = pathlib.Path(__file__).resolve().parents[2]
 HEX = re.compile(r"^    ([<>]) ((?:[0-9a-f]{2,} ?)+)(?:\s|$)")
 
 
@@ -24,8 +25,12 @@ def dialogue() -> Iterator[tuple[str, bytes]]:
 
 
 def main() -> int:
-    server = subprocess.Popen(
-        sys.argv[1:] or [str(TOP / "serve")], stdin=subprocess.PIPE, stdout=subprocess.PIPE)
+    """Sends the requests; status 1 where a reply is another one."""
+    words = argparse.ArgumentParser(
+        description=__doc__, formatter_class=argparse.RawDescriptionHelpFormatter)
+    words.add_argument("program", nargs=argparse.REMAINDER, help="with its words (./serve)")
+    command = words.parse_args().program or [str(TOP / "serve")]
+    server = subprocess.Popen(command, stdin=subprocess.PIPE, stdout=subprocess.PIPE)
     assert server.stdin and server.stdout
     wrong = 0
     for side, data in dialogue():

@@ -1,4 +1,3 @@
-#!/usr/bin/env python3
 """Runs the blocks of docs/CLUSTER.md, section "Three machines", line by line on three machines.
 
     tools/run_cluster_page.py [--server WORDS] [--show]
@@ -25,13 +24,9 @@ import time
 from collections.abc import Iterator
 from dataclasses import dataclass
 
-TOP = pathlib.Path(__file__).resolve().parent.parent
-CLIENT = TOP / "clients" / "python"
-for folder in (CLIENT / "with_packages", CLIENT, CLIENT / "src"):
-    sys.path.insert(0, str(folder))
+from machines import Machines, missing
 
-from machines import Machines, missing  # noqa: E402
-
+TOP = pathlib.Path(__file__).resolve().parents[3]
 SAYS = "xqs node: "
 WAIT = 300.0
 PLACES = ((r"\(on m2 and m3 the same, with `@m1`", ("m1", "m2", "m3")),

@@ -11,8 +11,8 @@ import tempfile
 from collections import Counter
 from collections.abc import Iterable
 
-from corpora.lines import Line, lines_of
-from workspace import built
+from tools.common.workspace import built
+from tools.trials.corpora.lines import Line, lines_of
 
 CRATES = ("xq_atoms", "xq_lexer", "xq_expressions", "xq_parser", "xq_statics")
 CODES = ("XPST0003", "XQST0090", "XPST0008", "XPST0017", "XQST0089", "XQST0094", "prof:PREFIX",

@@ -17,12 +17,12 @@ import sys
 import tempfile
 from collections.abc import Iterator, Mapping, Sequence
 
-from corpora.lines import Line, lines_of
-from rows import documents
-from rows.files import Row, file_of
-from rows.terms import meaning
-from rows.tokens import Refused
-from workspace import begin
+from tools.common.workspace import begin
+from tools.language import documents
+from tools.language.files import Row, file_of
+from tools.language.terms import meaning
+from tools.language.tokens import Refused
+from tools.trials.corpora.lines import Line, lines_of
 
 CRATES = ("xq_atoms", "xq_expressions", "xq_trees", "xq_meaning")
 CRATE = "xq_corpus"

@@ -11,8 +11,8 @@ import shlex
 import sys
 from collections.abc import Iterable, Iterator
 
-import harness
-from corpora.lines import lines_of
+from tools.common import harness
+from tools.trials.corpora.lines import lines_of
 
 LONGEST = 1048576
 

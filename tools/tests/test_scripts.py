@@ -1,0 +1,78 @@
+"""Each script starts by its name from any folder, and tools/README.md has a line for each file."""
+
+import pathlib
+import re
+import subprocess
+import tempfile
+import unittest
+
+from tools.common.repository import TOP
+
+FOLDERS = ("user", "gate", "trials", "release")
+PAGE = TOP / "tools" / "README.md"
+LINE = re.compile(r"^\| `([\w.]+)` \|", re.MULTILINE)
+
+
+def modules() -> list[pathlib.Path]:
+    """The modules that `tools/run` knows."""
+    folders = [*(TOP / "tools" / it for it in FOLDERS), TOP / "bench"]
+    return [it for folder in folders for it in folder.glob("*.py") if it.stem != "__init__"]
+
+
+def scripts() -> list[str]:
+    """The names of those that read a command line."""
+    reads = ("parse_args(", "with folder(__doc__)")
+    return [it.stem for it in modules() if '__name__ == "__main__"' in (text := it.read_text())
+            and any(word in text for word in reads)]
+
+
+def started(name: str, *words: str) -> subprocess.CompletedProcess[str]:
+    """How a script ends that is started in another folder."""
+    with tempfile.TemporaryDirectory() as folder:
+        return subprocess.run([TOP / "tools" / "run", name, *words], cwd=folder, text=True,
+                              stdin=subprocess.DEVNULL, capture_output=True)
+
+
+class Scripts(unittest.TestCase):
+    def test_each_shows_its_help(self) -> None:
+        self.assertGreater(len(scripts()), 40)
+        for name in scripts():
+            with self.subTest(name):
+                ended = started(name, "--help")
+                self.assertEqual((ended.returncode, ended.stderr), (0, ""))
+                self.assertTrue(ended.stdout.startswith("usage: "), ended.stdout[:80])
+
+    def test_a_name_without_a_script_is_refused(self) -> None:
+        for name in ("absent", "../gate/gate_time", "tables"):
+            with self.subTest(name):
+                self.assertEqual(started(name).returncode, 2)
+
+    def test_each_name_is_that_of_one_file(self) -> None:
+        names = [it.stem for it in modules()]
+        self.assertEqual([it for it in names if names.count(it) > 1], [])
+
+    def test_what_a_release_has_starts_by_its_path(self) -> None:
+        for name in ("try_dialogue", "show_run"):
+            ended = subprocess.run(["/usr/bin/env", "-i", "PATH=/usr/local/bin:/usr/bin:/bin",
+                                    "python3", TOP / "tools" / "user" / f"{name}.py", "--help"],
+                                   cwd="/", capture_output=True, text=True)
+            self.assertEqual((ended.returncode, ended.stderr), (0, ""))
+
+
+class Page(unittest.TestCase):
+    def listed(self, part: str) -> list[str]:
+        """The files that a part of the page lists."""
+        text = PAGE.read_text().partition(f"\n## `{part}/`")[2].partition("\n## ")[0]
+        return sorted(LINE.findall(text))
+
+    def test_each_file_has_a_line(self) -> None:
+        for part in (*FOLDERS, "bench"):
+            folder = TOP / part if part == "bench" else TOP / "tools" / part
+            files = sorted(it.name for it in folder.iterdir()
+                           if it.is_file() and it.name != "__init__.py")
+            with self.subTest(part):
+                self.assertEqual(self.listed(part), files)
+
+
+if __name__ == "__main__":
+    unittest.main()
