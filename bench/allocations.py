@@ -55,7 +55,7 @@ def main() -> None:
     given = words.parse_args()
     command = shlex.split(given.server) or [str(built())]
     found = of_queries(command, document(ELEMENTS), [query for _, query in QUERIES])
-    for (name, _), count in zip(QUERIES, found):
+    for (name, _), count in zip(QUERIES, found, strict=False):
         print(f"{name:20} {count:9,}")
 
 

@@ -42,7 +42,7 @@ def once(program: str, kind: str, size: int) -> Turn:
 def least(turns: Sequence[Turn]) -> Turn:
     """The rows and the bytes, and the least times, of several turns of one size."""
     rows, length, _ = turns[0]
-    return rows, length, [min(times) for times in zip(*(turn[2] for turn in turns))]
+    return rows, length, [min(times) for times in zip(*(turn[2] for turn in turns), strict=True)]
 
 
 def measure(program: str) -> None:
@@ -52,9 +52,10 @@ def measure(program: str) -> None:
     for kind, sizes in KINDS:
         rounds = [[once(program, kind, size) for size in sizes] for _ in range(RUNS)]
         before: list[float] = []
-        for size, turns in zip(sizes, zip(*rounds)):
+        for size, turns in zip(sizes, zip(*rounds, strict=True), strict=True):
             rows, length, times = least(turns)
-            ratios = " ".join("%5.1f" % (now / then) for now, then in zip(times, before))
+            ratios = " ".join(f"{now / then:5.1f}"
+                              for now, then in zip(times, before, strict=False))
             print("%-11s %8d %8d %9.1f %9.1f %9.1f %9.1f   %s"
                   % (kind, size, rows, times[0], times[1], times[2], length / times[2] / 1000,
                      ratios), flush=True)

@@ -36,7 +36,7 @@ def once(program: str, text: str, wanted: str) -> int:
 def times(program: str, texts: Sequence[str], wanted: str, runs: int) -> list[int]:
     """The least microseconds for each text."""
     rounds = [[once(program, text, wanted) for text in texts] for _ in range(runs)]
-    return [min(column) for column in zip(*rounds)]
+    return [min(column) for column in zip(*rounds, strict=True)]
 
 
 def measure(program: str, queries: Iterable[tuple[str, int, Callable[[int], str]]], wanted: str,
@@ -48,7 +48,7 @@ def measure(program: str, queries: Iterable[tuple[str, int, Callable[[int], str]
     for name, most, make in queries:
         texts = [make(size) for size in (most // 4, most // 2, most)]
         before: int | None = None
-        for text, time in zip(texts, times(program, texts, wanted, runs)):
+        for text, time in zip(texts, times(program, texts, wanted, runs), strict=True):
             ratio = time / before if before and before > SHORT else None
             within = within and (ratio is None or ratio <= MOST)
             shown = "" if ratio is None else "%.2f" % ratio

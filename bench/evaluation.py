@@ -47,13 +47,14 @@ def figures(program: str, elements: int) -> list[Figures]:
     groups = [turns[n:n + TURNS] for n in range(0, len(turns), TURNS)]
     least = [min(turn[0] for turn in group) / 1000 for group in groups]
     return [(near, far, group[-1][2])
-            for near, far, group in zip(least[::2], least[1::2], groups[::2])]
+            for near, far, group in zip(
+                least[::2], least[1::2], groups[::2], strict=False)]
 
 
 def least(runs: Iterable[Sequence[Figures]]) -> list[Figures]:
     """For each query the least times of several runs."""
     return [(min(turn[0] for turn in turns), min(turn[1] for turn in turns), turns[0][2])
-            for turns in zip(*runs)]
+            for turns in zip(*runs, strict=True)]
 
 
 def of_engines(is_wanted: bool, scratch: str) -> tuple[list[str], list[list[str]]]:
@@ -75,13 +76,13 @@ def main() -> int:
         program = bench_program(given.folder or scratch, "evaluation", USES)
         rounds = [(figures(program, LARGE // 10), figures(program, LARGE)) for _ in range(ROUNDS)]
         names, others = of_engines(given.engines, scratch)
-    small, large = (least(runs) for runs in zip(*rounds))
+    small, large = (least(runs) for runs in zip(*rounds, strict=True))
     heads = ("Query", "10,000", "100,000", "from memory", "from memory", "growth", "rows read")
     print(row([*heads, *names]))
     print("|" + "---|" * len([*heads, *names]))
     within = True
     for (name, _), (little, before, _), (much, time, rows), beside in zip(
-            QUERIES, small, large, others):
+            QUERIES, small, large, others, strict=False):
         within = within and time / before <= MOST
         ours = [f"{it:.1f}" for it in (little, much, before, time, time / before)]
         print(row([name, *ours, rows, *beside]))

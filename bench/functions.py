@@ -67,7 +67,7 @@ def times(program: str, size: int) -> list[tuple[float, float]]:
     # (a query makes its input, so turns that begin with empty caches are as the others)
     groups = [found[n:n + 2 * TURNS] for n in range(0, len(found), 2 * TURNS)]
     least = [min(int(words[0]) for words in group) / 1000 for group in groups]
-    pairs = zip(least[::2], least[1::2])
+    pairs = zip(least[::2], least[1::2], strict=True)
     return [(max(0.0, whole - given) / CALLS_EACH, given) for given, whole in pairs]
 
 
@@ -79,7 +79,7 @@ def main() -> int:
     print("| Function | 100,000 | 1,000,000 | growth | its input |")
     print("|---|---|---|---|---|")
     within = True
-    for (name, *_), (before, _), (time, given) in zip(CALLS, small, large):
+    for (name, *_), (before, _), (time, given) in zip(CALLS, small, large, strict=True):
         ratio = time / before if before > SHORT else None
         within = within and (ratio is None or ratio <= MOST)
         shown = "" if ratio is None else f"{ratio:.1f}"

@@ -6,6 +6,7 @@ Prints the milliseconds of each text at a quarter, a half and the whole of its s
 times as long each doubling takes. Ends with 1 where an answer is another one.
 """
 import argparse
+import itertools
 import resource
 import sys
 import time
@@ -64,7 +65,7 @@ def main() -> None:
     server.ask(b"S", store(b"b", LIBRARY))
     for name, size, text in GROWING:
         spent = [min(asked(server, *text(size // part)) for _ in range(3)) for part in (4, 2, 1)]
-        doublings = [after / before for before, after in zip(spent, spent[1:])]
+        doublings = [after / before for before, after in itertools.pairwise(spent)]
         print(
             f"{name:18} {size:9,}" + "".join(f" {one:9.1f}" for one in spent)
             + "   " + ", ".join(f"{one:.1f}" for one in doublings),

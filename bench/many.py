@@ -100,7 +100,7 @@ def show_stores(name: str, batches: Sequence[float], faults: Faults) -> None:
     rates = [BATCH / statistics.median(batches[max(0, mark // BATCH - 10):mark // BATCH])
              for mark in marks]
     print(f"{name}: stores a second at " + ", ".join(
-        f"{mark:,}: {rate:,.0f}" for mark, rate in zip(marks, rates)), flush=True)
+        f"{mark:,}: {rate:,.0f}" for mark, rate in zip(marks, rates, strict=True)), flush=True)
     faults.judge(f"{name}: stores slow down", rates[0] / rates[-1], 1 / 0.7)
 
 

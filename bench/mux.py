@@ -22,7 +22,6 @@ import pathlib
 import signal
 import socket
 import statistics
-import struct
 import subprocess
 import sys
 import tempfile
@@ -32,6 +31,7 @@ from collections.abc import Callable, Iterator
 from contextlib import contextmanager
 
 from tools.common.repository import TOP
+from xqs.protocol import Kind, frame, store_body
 
 SERVERS = 3
 SECONDS = 4.0
@@ -56,11 +56,11 @@ class Connection:
 
     def send(self, kind: bytes, body: bytes) -> None:
         """Sends a frame."""
-        self._socket.sendall(struct.pack(">IIc", 5 + len(body), 1, kind) + body)
+        self._socket.sendall(frame(1, Kind(kind), body))
 
     def reply(self) -> bytes:
         """The status and text of the next reply."""
-        return self._take(struct.unpack(">I", self._take(4))[0])[4:]
+        return self._take(int.from_bytes(self._take(4), "big"))[4:]
 
     def _take(self, count: int) -> bytes:
         data = bytearray()
@@ -81,8 +81,7 @@ class Connection:
 
     def store(self, address: str, text: str) -> None:
         """Stores a document."""
-        raw = address.encode()
-        self.ask(b"S", bytes([len(raw)]) + raw + text.encode())
+        self.ask(b"S", store_body(address, text))
 
 
 class Mux:

@@ -10,7 +10,6 @@ import argparse
 import os
 import socket
 import statistics
-import struct
 import subprocess
 import sys
 import tempfile
@@ -20,9 +19,10 @@ from collections.abc import Callable
 
 from tools.common import command_line
 from tools.common.repository import TOP
+from xqs.protocol import Kind, frame
 
 COUNT, CLIENTS, RUNS = 20_000, 20, 3
-FRAME = struct.pack(">IIc", 6, 1, b"Q") + b"1"
+FRAME = frame(1, Kind.QUERY, b"1")
 REPLY = 10
 
 

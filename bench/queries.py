@@ -149,7 +149,8 @@ def show_growth(command: Command, rounds: int) -> None:
             print(f"{where}: stored in {small:.0f} and {large:.0f} ms, "
                   f"{large / small:.1f} times as long")
             print(f"{'milliseconds':20} {'10,000':>15} {'100,000':>17} {'growth':>7}")
-            for (name, _), (first, again), (slow, repeated) in zip(QUERIES, few, many):
+            for (name, _), (first, again), (slow, repeated) in zip(
+                    QUERIES, few, many, strict=True):
                 print(f"{name:20} {first:7.1f} {again:7.1f} {slow:9.1f} {repeated:7.1f}"
                       f" {repeated / again:7.1f}", flush=True)
 

@@ -8,6 +8,7 @@ Each time is the median of some runs, ours and C's in turn, more of them where t
 It is given as a multiple of C SQLite's in memory, and for a file also of C SQLite's in a file.
 COUNTER is held.c's library, which counts what the process has allocated and not freed.
 """
+import itertools
 import os
 import statistics
 import subprocess
@@ -84,7 +85,7 @@ def compare() -> None:
                 + f"   first write after the put {ours['first'] / 1000:.2f} ms")
     for kind in ("disks", "file"):
         for name in ("replace", "drop"):
-            for few, many in zip(ROWS, ROWS[1:]):
+            for few, many in itertools.pairwise(ROWS):
                 growth = times[kind, many][name] / times[kind, few][name]
                 print(f"{kind:6} {name} from {few} to {many} rows: {growth:.1f} times"
                       + (f"   BEYOND THE LIMIT {GROWTH}" if growth > GROWTH else ""))

@@ -75,10 +75,10 @@ def of_names(programs: Sequence[str], folder: str, names: int) -> None:
     paths = [os.path.join(folder, name) for name in ("old.db", "new.db")]
     times: Times = {}
     for _ in range(RUNS):
-        for which, (program, path) in enumerate(zip(programs, paths)):
+        for which, (program, path) in enumerate(zip(programs, paths, strict=True)):
             found = run(program, "named", ROWS, absent(path), names)
             add(times, found, {"put": ("put", which), "load": ("load", which)})
-        for which, (path, text) in enumerate(zip(paths, (OLD_RANGE, NEW_RANGE))):
+        for which, (path, text) in enumerate(zip(paths, (OLD_RANGE, NEW_RANGE), strict=True)):
             found = run(new, "query", 0, path, text)
             assert found["rows"] == ROWS, found
             add(times, found, {"query": ("range", which)})

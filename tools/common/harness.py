@@ -1,17 +1,19 @@
 """A harness for the scripts: a server that is run, frames to it, replies as (status, text).
 
-It knows one tag and ends the script where a reply has another. Programs use clients/python.
+It knows one tag and ends the script where a reply has another. Its frames and addresses may be
+such that the server refuses; those of `xqs.protocol` may not, and programs use that.
 """
 
+import contextlib
 import os
 import pathlib
-import struct
 import subprocess
 import sys
 from collections.abc import Iterable
 from typing import IO, Any, TypeAlias
 
 from tools.common.repository import BUILT, TOP
+from xqs.protocol import framed, tag_of
 
 LIBRARY = (b'document {element lib {element book {attribute id {"1"}, text {"A"}}, '
            b'element book {attribute id {"2"}, text {"B"}}}}')
@@ -22,7 +24,7 @@ Reply: TypeAlias = tuple[int, bytes]
 
 def frame(kind: bytes, body: bytes = b"") -> bytes:
     """The frame of a request: its length, tag and kind, and the body."""
-    return struct.pack(">II", len(body) + 5, TAG) + kind + body
+    return framed(TAG.to_bytes(4, "big") + kind + body)
 
 
 def store(address: bytes, text: bytes) -> bytes:
@@ -57,11 +59,9 @@ class Server:
 
     def send(self, data: bytes) -> None:
         """Sends bytes, as far as the server takes them."""
-        try:
+        with contextlib.suppress(BrokenPipeError):
             while data:
                 data = data[os.write(self._in.fileno(), data):]
-        except BrokenPipeError:
-            pass
 
     def read(self, count: int) -> bytes:
         """So many bytes of replies, or fewer where the server ends."""
@@ -78,11 +78,11 @@ class Server:
         head = self.read(4)
         if len(head) < 4:
             return None
-        (length,) = struct.unpack(">I", head)
+        length = int.from_bytes(head, "big")
         message = self.read(length)
         if len(message) < length:
             return None
-        if message[:4] != struct.pack(">I", TAG):
+        if tag_of(message) != TAG:
             sys.exit("a reply with another tag: %s" % message[:40].hex())
         return message[4], message[5:]
 

@@ -2,6 +2,7 @@
 
 from __future__ import annotations
 
+import graphlib
 import os
 import pathlib
 import shutil
@@ -36,12 +37,13 @@ def all_below(uses: Iterable[str], crates: Mapping[str, list[str]]) -> list[str]
     """These crates of the repository and those below them, each after those that it uses.
 
     Libraries of the kit, which are no keys of `crates`, are left out."""
-    found: list[str] = []
-    for name in uses:
-        if name in crates and name not in found:
-            below = all_below(crates[name], crates)
-            found += [it for it in [*below, name] if it not in found]
-    return found
+    graph: dict[str, list[str]] = {}
+    left = [it for it in uses if it in crates]
+    for name in left:
+        if name not in graph:
+            graph[name] = [it for it in crates[name] if it in crates]
+            left += graph[name]
+    return list(graphlib.TopologicalSorter(graph).static_order())
 
 
 def outside(name: str, crates: Mapping[str, list[str]]) -> list[str]:

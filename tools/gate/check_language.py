@@ -43,7 +43,7 @@ def unbroken(text: str) -> str:
 def sections_of(page: str) -> Iterable[tuple[str, str]]:
     """Each heading with the text below it, down to the next heading."""
     _, *parts = HEADING.split(page)
-    return zip(parts[::2], parts[1::2])
+    return zip(parts[::2], parts[1::2], strict=False)
 
 
 def named(heading: str, count: int) -> str:

@@ -2,10 +2,10 @@
 
     tools/run check_python
 
-mypy runs in the root over tools/ and bench/, and in clients/python over the client and its tests,
-each time with the pyproject.toml of that folder. pycodestyle and pyflakes go over all of these; a
-line with `# noqa` stays as it is. A check whose program is not installed is left out by name. The
-status is 1 where there is a finding.
+mypy, strict, goes over tools/, bench/ and ./xqs in the root, and in clients/python over the client
+and its tests, each time with the pyproject.toml of that folder. ruff goes over all of these by the
+same files; without it pycodestyle and pyflakes do, and a line with `# noqa` stays as it is. A check
+whose program is not installed is left out by name. The status is 1 where there is a finding.
 """
 
 from __future__ import annotations
@@ -13,6 +13,7 @@ from __future__ import annotations
 import argparse
 import dataclasses
 import pathlib
+import re
 import shutil
 import subprocess
 import sys
@@ -24,6 +25,10 @@ INSTALL = "apt-get install mypy pycodestyle pyflakes3"
 # Imports after a line that changes the path, blanks in slices, a line of `def` with its `...`, and
 # breaks beside operators: pycodestyle refuses either side.
 ALLOWED = "E203,E402,E704,W503,W504"
+# What is checked in the root.
+SCRIPTS = ("tools", "bench", "xqs")
+# The last line of mypy, which counts the others.
+SUM = re.compile(r"Found \d+ errors? in ")
 # The names that a program has, in Debian or elsewhere.
 PYFLAKES = ("pyflakes3", "pyflakes")
 
@@ -41,15 +46,27 @@ def checks(top: pathlib.Path) -> list[Check]:
     """The checks of the repository in this folder."""
     client = top / "clients" / "python"
     cache = ("--cache-dir", str(top / "out" / "mypy"))
-    style = (f"--ignore={ALLOWED}", "--max-line-length=100")
-    return [
+    types = [
         Check(("mypy",), cache, top),
+        Check(("mypy",), (*cache, "xqs"), top),
         Check(("mypy",), (*cache, "src", "tests"), client),
         Check(("mypy",), (*cache, "with_packages"), client),
-        Check(("pycodestyle",), (*style, "tools", "bench"), top),
-        Check(PYFLAKES, ("tools", "bench"), top),
-        Check(("pycodestyle",), (*style, "."), client),
-        Check(PYFLAKES, (".",), client),
+    ]
+    return [*types, *(by_ruff(top, client) if shutil.which("ruff") else without_ruff(top, client))]
+
+
+def by_ruff(top: pathlib.Path, client: pathlib.Path) -> list[Check]:
+    """The checks of style where ruff is installed."""
+    words = ("check", "--quiet", "--output-format=concise", "--cache-dir", f"{top}/out/ruff")
+    return [Check(("ruff",), (*words, *SCRIPTS), top), Check(("ruff",), (*words, "."), client)]
+
+
+def without_ruff(top: pathlib.Path, client: pathlib.Path) -> list[Check]:
+    """Those where it is not."""
+    words = (f"--ignore={ALLOWED}", "--max-line-length=100")
+    return [
+        Check(("pycodestyle",), (*words, *SCRIPTS), top), Check(PYFLAKES, SCRIPTS, top),
+        Check(("pycodestyle",), (*words, "."), client), Check(PYFLAKES, (".",), client),
     ]
 
 
@@ -77,8 +94,9 @@ def findings(check: Check, program: str) -> list[str]:
     if done.returncode == 0:
         return []
     said = (done.stdout + done.stderr).splitlines() or [f"{program}: status {done.returncode}"]
-    is_style = check.programs != ("mypy",)
-    return [line for line in said if not (is_style and is_excused(line, check.folder))]
+    if check.programs == ("mypy",):
+        return [line for line in said if not SUM.match(line)]
+    return [line for line in said if not is_excused(line, check.folder)]
 
 
 def main() -> int:

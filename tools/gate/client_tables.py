@@ -205,8 +205,8 @@ def module() -> str:
     types = ", ".join(f'"{it}"' for it in functions("constructors"))
     names = "\n".join(f'    "{it}",' for it in no_calls())
     table = "\n".join(wrapped(line) for line in grammar().split("\n"))
-    return f'''"""What the client knows of the language. `tools/run client_tables --write` writes this
-from the server's own tables, and a test compares them: change nothing here by hand.
+    return f'''"""What the client knows of the language: `tools/run client_tables --write` makes it
+from the server's own tables, and a test compares them. Change nothing here by hand.
 """
 
 FUNCTIONS: dict[str, tuple[int, int | None]] = {{

@@ -81,7 +81,7 @@ def file_of(documents: Mapping[str, str]) -> str:
     addresses = sorted(documents, key=str.encode)
     names: list[Term] = [f"document{at}" for at in range(len(addresses))]
     parts = [HEAD]
-    for name, address in zip(names, addresses):
+    for name, address in zip(names, addresses, strict=True):
         tree = written(tree_of(documents[address]))
         parts.append(f"abbrev pub {name} : Tree\n{name} = {tree}\n")
     stored = written([("codes", quoted(address)) for address in addresses])

@@ -9,7 +9,6 @@ no documents.
 import contextlib
 import pathlib
 import shutil
-import struct
 import subprocess
 import tempfile
 from collections.abc import Iterable, Iterator, Sequence
@@ -42,7 +41,7 @@ class Ended:
 
 def request(tag: int, row: Row) -> bytes:
     """The frame of a row, whatever its kind."""
-    return framed(struct.pack(">I", tag) + row.kind + row.body)
+    return framed(tag.to_bytes(4, "big") + row.kind + row.body)
 
 
 def replies(output: bytes) -> list[Reply]:
@@ -107,7 +106,7 @@ def wrong(command: Sequence[str], run: Sequence[Group]) -> Iterator[str]:
     found = [*replies(ended.output), *[None] * len(sent)]
     if (ended.status, ended.line) != (0, ""):
         yield f"the server ended with status {ended.status}: {ended.line}"
-    for tag, ((name, row), reply) in enumerate(zip(sent, found), 1):
+    for tag, ((name, row), reply) in enumerate(zip(sent, found, strict=False), 1):
         if said := difference(row, tag, reply):
             yield f"{name}: {said}"
 

@@ -22,11 +22,12 @@ middle, after }. A reply that reads as a code has status 1, any other status 0; 
 import functools
 import pathlib
 import re
+import tomllib
 from collections.abc import Iterator, Mapping
 from dataclasses import dataclass
 from typing import Any
 
-import tomllib
+from tools.common.harness import store
 
 FOLDER = pathlib.Path(__file__).resolve().parent
 DOCUMENTS = "documents.toml"
@@ -72,8 +73,7 @@ def text_of(given: Given) -> bytes:
 
 def store_body(address: str, query: bytes) -> bytes:
     """The body of a store; the address may be one that a server refuses."""
-    raw = address.encode()
-    return bytes([len(raw)]) + raw + query
+    return store(address.encode(), query)
 
 
 def read(name: str) -> dict[str, Any]:

@@ -19,8 +19,9 @@ ROWS = ("SELECT address || ' ' || pre || ' ' || size || ' ' || level || ' ' || k
 FRONT = Row(b"Q", b'count(doc("m")/node()[1])', 0, b"")
 # An opening keeps rows document after document. This one leaves no room for another in a megabyte:
 # its two rows take 24 bytes each, the empty name 64, and the text the rest but for less than 100.
-FULL = Row(b"S", tables.store_body("a", b'document {text {string-join(for $n in 1 to 10484 '
-                                       b'return "%s", "")}}' % (b"x" * 100)), 0, b"")
+FULL = Row(b"S", tables.store_body(
+    "a", b'document {text {string-join(for $n in 1 to 10484 return "%s", "")}}' % (b"x" * 100)),
+    0, b"")
 A_MEGABYTE = ("--kept", "1")
 ROUND = ("first", "path", "tuple", "number", "content", "node", "function", "static")
 DOCUMENTS, STEPS = 300, 1_500
@@ -86,7 +87,7 @@ class ChangeTest(OverFile):
             return
         self.run_rows([FULL])
         front = [FRONT] if case.kept is Kept.FRONT else []
-        for before, query in zip([None, *queries], queries):
+        for before, query in zip([None, *queries], queries, strict=False):
             self.run_rows([*(front if before else []), stored(query)], *A_MEGABYTE)
 
     def test_edits_leave_what_the_last_document_leaves(self) -> None:

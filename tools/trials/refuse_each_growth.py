@@ -25,7 +25,6 @@ import itertools
 import os
 import pathlib
 import shutil
-import struct
 import subprocess
 import sys
 import tempfile
@@ -38,10 +37,10 @@ from tools.common.repository import TOP
 from tools.rows.runs import Reply, request
 from tools.rows.runs import whole_replies as replies
 from tools.rows.tables import Row, runs, worked
-from xqs.protocol import framed
+from xqs.protocol import MAX_REQUEST, framed
 
 TOLD = (Row(b"L", b"", 0, b""), Row(b"Q", b'doc("a")', 0, b""), Row(b"Q", b'doc("b")', 0, b""))
-NO_REQUEST, TOO_LONG = b"\xaa\xbb", struct.pack(">I", 1_048_833)
+NO_REQUEST, TOO_LONG = b"\xaa\xbb", (MAX_REQUEST + 1).to_bytes(4, "big")
 WANTS = (b"memory", b"store")
 NO_ROOM = (b"xq_server: memory", b"xq_server: cannot open the store")
 SHOWN = 40
@@ -179,7 +178,7 @@ def judge_later(
     if list(later) == list(wanted[place:]):
         return Judgement(f"reply: {got[place].text.decode()}", kept=((len(program.sent), place),))
     shut = [it.status == 2 and it.text == b"store" for it in later]
-    for is_shut, reply, other in zip(shut, later, wanted[place:]):
+    for is_shut, reply, other in zip(shut, later, wanted[place:], strict=False):
         if not is_shut and reply != other:
             return Judgement("later reply", f"{reply} and not {other} after frame {place}")
     if len(later) != len(whole) - place - 1:
@@ -248,7 +247,7 @@ def judged_on_file(program: Program, whole: Ended, numbers: range) -> dict[int, 
         return found
 
     with concurrent.futures.ThreadPoolExecutor(os.cpu_count()) as pool:
-        return dict(zip(numbers, pool.map(judged, numbers)))
+        return dict(zip(numbers, pool.map(judged, numbers), strict=True))
 
 
 def checked(program: Program, words: Sequence[str]) -> tuple[Ended, int]:
@@ -257,7 +256,7 @@ def checked(program: Program, words: Sequence[str]) -> tuple[Ended, int]:
     ended = program.run(b"".join(program.sent) + TOO_LONG, words, REPORT=str(report))
     got, rest = replies(ended.output)
     if tuple(got[:len(program.own)]) != program.own or rest or len(got) != len(program.sent) + 1:
-        pairs = enumerate(zip(got, program.own))
+        pairs = enumerate(zip(got, program.own, strict=False))
         place = next((at for at, pair in pairs if pair[0] != pair[1]), None)
         sys.exit(f"refuse_each_growth: with ample memory reply {place} is not the row's own")
     return ended, int(report.read_text())

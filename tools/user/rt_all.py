@@ -30,7 +30,7 @@ MINUTES = pathlib.Path(__file__).with_name("proof_minutes.txt")
 def loaded(script: pathlib.Path) -> types.ModuleType:
     """The kit's script `rt` as a module, with nothing written beside it."""
     sys.dont_write_bytecode = True
-    sys.path.insert(0, f"{script.parent}")
+    sys.path.insert(0, f"{script.parent}")  # as Python does for a script that it is given
     loader = importlib.machinery.SourceFileLoader("rt", f"{script}")
     module = types.ModuleType(loader.name)
     module.__file__ = f"{script}"
@@ -38,7 +38,7 @@ def loaded(script: pathlib.Path) -> types.ModuleType:
     return module
 
 
-def use_lanes(library: types.ModuleType) -> None:
+def use_lanes(library: Any) -> None:
     """Has the kit's library work on crates in lanes, and build each with its processors."""
     chain = lanes.program_chains(progress.expected_minutes(MINUTES))
     build, pools = library.Crate.build_rlib, []
@@ -51,8 +51,8 @@ def use_lanes(library: types.ModuleType) -> None:
         own = ["--jobs", f"{pools[0].share(crate)}"] if pools else [*flags]
         return int(build(crate, own, *rest, **named))
 
-    setattr(library, "ThreadPoolExecutor", begun)
-    setattr(library.Crate, "build_rlib", built)
+    library.ThreadPoolExecutor = begun
+    library.Crate.build_rlib = built
 
 
 def main(words: Sequence[str]) -> int:
@@ -62,9 +62,9 @@ def main(words: Sequence[str]) -> int:
         os.execvp("rt", ["rt", "all", *words])
     module = loaded(kit / "bin" / "rt")
     library = getattr(module, "rtlib", None)
-    crate = getattr(library, "Crate", None)
+    crate: Any = getattr(library, "Crate", None)
     if hasattr(crate, "front_end"):
-        setattr(crate, "front_end", lambda self: 0)
+        crate.front_end = lambda self: 0
     if library and hasattr(library, "ThreadPoolExecutor") and hasattr(crate, "build_rlib"):
         use_lanes(library)
     return int(module.main(["all", *words]))

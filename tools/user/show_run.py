@@ -1,6 +1,6 @@
 """Sends requests to a server, and prints each with its reply, then the end.
 
-    tools/run show_run SERVER FILE     of request frames, or with the ending .txt of requests as text
+    show_run.py SERVER FILE     of request frames, or with the ending .txt of requests as text
 
 A text has an empty line after each request. Its first line is `store ADDRESS`, `drop ADDRESS`,
 `query` or `list`, and the lines below are the query.

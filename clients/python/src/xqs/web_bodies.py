@@ -21,7 +21,7 @@ def media_type(request: web.Request, others: tuple[str, ...] = ()) -> str:
 
     HttpRefusal 415 for another one that is not among `others`, and for a body that is compressed.
     """
-    kind = request.content_type if "Content-Type" in request.headers else XML
+    kind: str = request.content_type if "Content-Type" in request.headers else XML
     coding = request.headers.get("Content-Encoding", "identity")
     if coding.lower() != "identity":
         raise HttpRefusal(415, "xqs:TYPE", f"a body is sent as it is, not as {coding}")
