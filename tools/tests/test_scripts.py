@@ -11,6 +11,8 @@ from tools.common.repository import TOP
 FOLDERS = ("user", "gate", "trials", "release")
 PAGE = TOP / "tools" / "README.md"
 LINE = re.compile(r"^\| `([\w.]+)` \|", re.MULTILINE)
+CALL = re.compile(r"\btools/run\s+(\w+)([^`\n]*)")
+OPTION = re.compile(r" (--[a-z-]+)")
 
 
 def modules() -> list[pathlib.Path]:
@@ -41,6 +43,15 @@ class Scripts(unittest.TestCase):
                 ended = started(name, "--help")
                 self.assertEqual((ended.returncode, ended.stderr), (0, ""))
                 self.assertTrue(ended.stdout.startswith("usage: "), ended.stdout[:80])
+
+    def test_options_that_pages_name_are_there(self) -> None:
+        texts = [it.read_text() for it in (*TOP.glob("*.md"), *TOP.glob("docs/*.md"))]
+        named = {(name, option) for text in texts for name, words in CALL.findall(text)
+                 for option in OPTION.findall(words)}
+        self.assertGreater(len(named), 5)
+        for name, option in sorted(named):
+            with self.subTest(name):
+                self.assertRegex(started(name, "--help").stdout, rf"{option}\b")
 
     def test_a_name_without_a_script_is_refused(self) -> None:
         for name in ("absent", "../gate/gate_time", "tables"):
