@@ -31,11 +31,11 @@ Turn: TypeAlias = tuple[int, int, list[float]]
 
 def once(program: str, kind: str, size: int) -> Turn:
     """The rows of the element, the bytes that it prints as, and the times in milliseconds."""
-    given = ("%s %d" % (kind, size)).encode()
+    given = f"{kind} {size}".encode()
     ran = subprocess.run([program], input=given, stdout=subprocess.PIPE, check=True)
     words = ran.stdout.decode().split()
     if words[0] == "refused":
-        sys.exit("%s %d: refused" % (kind, size))
+        sys.exit(f"{kind} {size}: refused")
     return int(words[0]), int(words[1]), [int(word) / 1000 for word in words[2:]]
 
 
@@ -56,9 +56,8 @@ def measure(program: str) -> None:
             rows, length, times = least(turns)
             ratios = " ".join(f"{now / then:5.1f}"
                               for now, then in zip(times, before, strict=False))
-            print("%-11s %8d %8d %9.1f %9.1f %9.1f %9.1f   %s"
-                  % (kind, size, rows, times[0], times[1], times[2], length / times[2] / 1000,
-                     ratios), flush=True)
+            print(f"{kind:<11} {size:8d} {rows:8d} {times[0]:9.1f} {times[1]:9.1f} "
+                  f"{times[2]:9.1f} {length / times[2] / 1000:9.1f}   {ratios}", flush=True)
             before = times
 
 

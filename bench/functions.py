@@ -56,7 +56,7 @@ def times(program: str, size: int) -> list[tuple[float, float]]:
     """Milliseconds of each call, and of its input alone."""
     lines = ["document {element lib {}}"]
     for _, given, call in CALLS:
-        repeated = "count(for $k in 1 to %d return %s)" % (CALLS_EACH, call)
+        repeated = f"count(for $k in 1 to {CALLS_EACH} return {call})"
         parts = ("count($t)", repeated)
         lines += [("let $t := " + given + " return " + part).format(n=size) for part in parts]
     text = "\n".join(lines)

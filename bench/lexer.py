@@ -78,15 +78,15 @@ def main() -> None:
     command_line.parser(__doc__).parse_args()
     with tempfile.TemporaryDirectory() as folder:
         program = built(folder, CRATES, CRATES, PROGRAM)
-        print("%-22s %10s %8s %10s %8s %8s" % ("text", "bytes", "tokens", "ms", "MB/s", "ratio"))
+        print(f"{'text':<22} {'bytes':>10} {'tokens':>8} {'ms':>10} {'MB/s':>8} {'ratio':>8}")
         for name, make in KINDS:
             before: int | None = None
             for size in SIZES:
                 text = make(size)
                 tokens, time = timed(program, text)
-                ratio = "%8.2f" % (time / before) if before else ""
-                print("%-22s %10d %8d %10.2f %8.1f %8s" % (
-                    name, len(text), tokens, time / 1000, len(text) / time, ratio), flush=True)
+                ratio = f"{time / before:8.2f}" if before else ""
+                print(f"{name:<22} {len(text):10d} {tokens:8d} {time / 1000:10.2f} "
+                      f"{len(text) / time:8.1f} {ratio:>8}", flush=True)
                 before = time
 
 

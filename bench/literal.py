@@ -23,9 +23,9 @@ def literal(size: int) -> str:
     books: list[str] = []
     length, number = len("document {element lib {}}"), 0
     while True:
-        book = 'element book {attribute id {"%d"}, text {"title %d"}}' % (number, number)
+        book = f'element book {{attribute id {{"{number}"}}, text {{"title {number}"}}}}'
         if length + len(book) + 2 > size:
-            return "document {element lib {%s}}" % ", ".join(books)
+            return f"document {{element lib {{{', '.join(books)}}}}}"
         books.append(book)
         length += len(book) + 2
         number += 1

@@ -86,13 +86,13 @@ def report(rows: int, found: Sequence[Stage]) -> None:
     """Prints the stages."""
     opened = next(stage.held for stage in found if stage.name == "opened")
     for stage in found:
-        line = "%-8s resident %7.1f MB, at most %7.1f MB" % (
-            stage.name, stage.resident / 1e6, stage.most / 1e6)
+        line = (f"{stage.name:<8} resident {stage.resident / 1e6:7.1f} MB, at most "
+                f"{stage.most / 1e6:7.1f} MB")
         held = stage.held
         if held and opened:
-            line += "   allocated %7.1f MB, at most %7.1f MB; a row %6.1f and %6.1f" % (
-                held[0] / 1e6, held[1] / 1e6,
-                (held[0] - opened[0]) / rows, (held[1] - opened[0]) / rows)
+            a_row = [(it - opened[0]) / rows for it in held]
+            line += (f"   allocated {held[0] / 1e6:7.1f} MB, at most {held[1] / 1e6:7.1f} MB; "
+                     f"a row {a_row[0]:6.1f} and {a_row[1]:6.1f}")
         print(line)
 
 
@@ -100,7 +100,7 @@ def most_kept() -> int:
     """How many bytes are kept of all documents together at most."""
     found = MOST_KEPT.search(ROOM.read_text())
     if found is None:
-        sys.exit("%s does not say how many bytes are kept" % ROOM)
+        sys.exit(f"{ROOM} does not say how many bytes are kept")
     return int(found.group(1)) << int(found.group(2))
 
 
@@ -110,17 +110,17 @@ def report_bound(rows: int, found: Sequence[Stage]) -> None:
     opened, values = held["opened"], held["values"]
     if opened and values:
         taken = (values[0] - opened[0]) / rows
-        print("a row with names and values: %.1f bytes; at most %d MB are kept, some %.1f million"
-              % (taken, most_kept() >> 20, most_kept() / taken / 1e6))
+        print(f"a row with names and values: {taken:.1f} bytes; at most {most_kept() >> 20} MB are "
+              f"kept, some {most_kept() / taken / 1e6:.1f} million")
 
 
 def measure(program: str) -> None:
     with tempfile.TemporaryDirectory() as folder:
         path = os.path.join(folder, "rows.db")
-        rows = int(answer(program, "fill %d %s" % (ELEMENTS, path)))
+        rows = int(answer(program, f"fill {ELEMENTS} {path}"))
         size = sum(os.path.getsize(os.path.join(folder, name)) for name in os.listdir(folder))
-        print("%d rows in a database of %.1f MB, its log counted" % (rows, size / 1e6), flush=True)
-        found = stages(answer(program, "scan %s" % path, counter(folder)))
+        print(f"{rows} rows in a database of {size / 1e6:.1f} MB, its log counted", flush=True)
+        found = stages(answer(program, f"scan {path}", counter(folder)))
         report(rows, found)
         report_bound(rows, found)
 

@@ -42,7 +42,7 @@ def timed(program: str, text: str, wanted: str) -> tuple[int, int]:
         done = subprocess.run([program], input=text.encode(), stdout=subprocess.PIPE, check=True)
         words = done.stdout.decode().split()
         if words[0] != wanted:
-            sys.exit("%s, not %s" % (words[0], wanted))
+            sys.exit(f"{words[0]}, not {wanted}")
         tokens, time = int(words[1]), max(1, int(words[2]))
         best = time if best is None else min(best, time)
     assert best is not None
@@ -74,17 +74,17 @@ def least_stack(program: str, text: str) -> int:
 
 def measure(program: str) -> None:
     """Prints the times and the stacks."""
-    print("%-14s %10s %10s %10s %8s" % ("text", "tokens", "ends as", "ms", "ratio"))
+    print(f"{'text':<14} {'tokens':>10} {'ends as':>10} {'ms':>10} {'ratio':>8}")
     for name, most, wanted, make in CHAINS:
         before: int | None = None
         for count in (most // 4, most // 2, most):
             tokens, time = timed(program, make(count), wanted)
-            ratio = "%8.2f" % (time / before) if before and before > SHORT else ""
-            print("%-14s %10d %10s %10.2f %8s" % (
-                name, tokens, wanted, time / 1000, ratio), flush=True)
+            ratio = f"{time / before:8.2f}" if before and before > SHORT else ""
+            print(f"{name:<14} {tokens:10d} {wanted:>10} {time / 1000:10.2f} "
+                  f"{ratio:>8}", flush=True)
             before = time
     for name, text in NESTS:
-        print("%-14s %10d KB of stack" % (name, least_stack(program, text)), flush=True)
+        print(f"{name:<14} {least_stack(program, text):10d} KB of stack", flush=True)
 
 
 def main() -> None:

@@ -29,12 +29,12 @@ def steps(length: int) -> str:
 
 
 def operands(length: int) -> str:
-    return of_length(length, "1", lambda n: " + %d" % (n % 10), "")
+    return of_length(length, "1", lambda n: f" + {n % 10}", "")
 
 
 def new_variables(length: int) -> str:
     return of_length(length, "let $v0 := 1",
-                     lambda n: ", $v%d := ($v%d, $v%d)" % (n + 1, n, n // 2), " return $v0")
+                     lambda n: f", $v{n + 1} := ($v{n}, $v{n // 2})", " return $v0")
 
 
 def one_variable(length: int) -> str:

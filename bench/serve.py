@@ -73,12 +73,12 @@ def main() -> None:
     rates("memory", [], seconds)
     with tempfile.TemporaryDirectory() as folder:
         rates("file", ["--file", f"{folder}/x.db"], seconds)
-        print("a file without rows opens in %.0f ms" % opening(f"{folder}/empty.db"))
+        print(f"a file without rows opens in {opening(f'{folder}/empty.db'):.0f} ms")
         server = Server([built(), "--file", f"{folder}/large.db"])
         for address in (b"a", b"b"):
             server.ask(b"S", store(address, large_document()))
         server.end()
-        print("a file of %d rows opens in %.0f ms" % (2 * ROWS, opening(f"{folder}/large.db")))
+        print(f"a file of {2 * ROWS} rows opens in {opening(f'{folder}/large.db'):.0f} ms")
 
 
 if __name__ == "__main__":

@@ -78,7 +78,7 @@ def least_stack(program: str, given: str) -> int:
     while not outcome(program, given, high * STEP):
         low, high = high, high * 2
         if high * STEP > MOST:
-            sys.exit("over %d KB of stack: %s" % (MOST, given[:60]))
+            sys.exit(f"over {MOST} KB of stack: {given[:60]}")
     while high - low > 1:
         middle = (low + high) // 2
         if outcome(program, given, middle * STEP):
@@ -90,14 +90,14 @@ def least_stack(program: str, given: str) -> int:
 
 def of_plans(program: str) -> tuple[int, str]:
     """Prints a line for each form of plan; gives the most bytes of a level, and its form."""
-    print("%-24s %10s %10s" % ("plan", "a level", "128 levels"))
+    print(f"{'plan':<24} {'a level':>10} {'128 levels':>10}")
     worst = (0, "")
     for form in PLANS:
-        given = ["plan %s %d\n" % (form, depth) for depth in (NESTING, DEEPER)]
+        given = [f"plan {form} {depth}\n" for depth in (NESTING, DEEPER)]
         few, many = (least_stack(program, each) for each in given)
         level = (many - few) * 1024 // (DEEPER - NESTING)
         worst = max(worst, (level, form))
-        print("%-24s %8d B %7d KB" % (form, level, few), flush=True)
+        print(f"{form:<24} {level:8d} B {few:7d} KB", flush=True)
     return worst
 
 
@@ -113,17 +113,17 @@ def deepest(program: str, before: str, middle: str, after: str) -> tuple[int, st
 
 def of_queries(program: str) -> tuple[int, str]:
     """Prints a line for each form of query; gives the most kilobytes, and its form."""
-    print("%-24s %6s %10s %14s   %s" % ("query", "times", "read", "and evaluated", "ends as"))
+    print(f"{'query':<24} {'times':>6} {'read':>10} {'and evaluated':>14}   {'ends as'}")
     worst = (0, "")
     for name, before, middle, after in QUERIES:
         count, query, ends = deepest(program, before, middle, after)
         if ends != "value":
-            sys.exit("%s: %s" % (name, ends))
+            sys.exit(f"{name}: {ends}")
         given = [word + "\n" + query for word in ("read", "ask")]
         read, asked = (least_stack(program, each) for each in given)
         worst = max(worst, (asked, name))
         told = outcome(program, given[1], MOST)
-        print("%-24s %6d %7d KB %11d KB   %s" % (name, count, read, asked, told), flush=True)
+        print(f"{name:<24} {count:6d} {read:7d} KB {asked:11d} KB   {told}", flush=True)
     return worst
 
 
@@ -133,8 +133,8 @@ def main() -> None:
         program = bench_program(room, "stack", USES)
         level, form = of_plans(program)
         most, name = of_queries(program)
-    print("the most of one level of a plan: %d bytes, %s" % (level, form))
-    print("the most of a query: %d KB, %s" % (most, name))
+    print(f"the most of one level of a plan: {level} bytes, {form}")
+    print(f"the most of a query: {most} KB, {name}")
 
 
 if __name__ == "__main__":

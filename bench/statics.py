@@ -21,7 +21,7 @@ RUNS = 75
 
 def new_variables(length: int) -> str:
     return of_length(length, "let $v0 := 1",
-                     lambda n: ", $v%d := ($v%d, $v%d)" % (n + 1, n, n // 2), " return $v0")
+                     lambda n: f", $v{n + 1} := ($v{n}, $v{n // 2})", " return $v0")
 
 
 def one_variable(length: int) -> str:

@@ -83,7 +83,7 @@ class Server:
         if len(message) < length:
             return None
         if tag_of(message) != TAG:
-            sys.exit("a reply with another tag: %s" % message[:40].hex())
+            sys.exit(f"a reply with another tag: {message[:40].hex()}")
         return message[4], message[5:]
 
     def ask(self, kind: bytes, body: bytes = b"") -> Reply | None:

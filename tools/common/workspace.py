@@ -84,7 +84,7 @@ def built(folder: str, crates: Iterable[str], uses: Iterable[str], source: str,
         shutil.copy(os.path.join(TOP, "bench", "programs", "caches.rattle"),
                     os.path.join(program, "src", "caches.rt"))
     with open(os.path.join(folder, "crates.txt"), "a") as lines:
-        lines.write("%s: %s\n" % (name, " ".join(uses)))
+        lines.write(f"{name}: {' '.join(uses)}\n")
     done = subprocess.run(["rt", "run"], cwd=program, input=b"", capture_output=True)
     path = os.path.join(program, "out", name)
     if done.returncode or not os.path.exists(path):

@@ -48,7 +48,7 @@ def sections_of(page: str) -> Iterable[tuple[str, str]]:
 
 def named(heading: str, count: int) -> str:
     """The name of the row of an example, which is that many under its heading."""
-    return "%s_%d" % (re.sub("[^a-z]+", "_", heading.lower()).strip("_"), count)
+    return f"{re.sub('[^a-z]+', '_', heading.lower()).strip('_')}_{count}"
 
 
 def rows_of(page: str) -> list[list[Row]]:
@@ -133,8 +133,8 @@ def main() -> int:
     if is_written:
         write(page)
     faults = [*missing_rows(page), *missing_definitions(page)]
-    print("\n".join([*faults, "%d examples, %d definitions cited, %d faults" % (
-        sum(map(len, rows_of(page))), len(list(citations_of(page))), len(faults))]))
+    print("\n".join([*faults, f"{sum(map(len, rows_of(page)))} examples, "
+                     f"{len(list(citations_of(page)))} definitions cited, {len(faults)} faults"]))
     return 1 if faults else 0
 
 

@@ -1,10 +1,17 @@
 """Each script starts by its name from any folder, and tools/README.md has a line for each file."""
 
+import contextlib
+import functools
+import io
 import pathlib
 import re
+import runpy
 import subprocess
+import sys
 import tempfile
 import unittest
+import warnings
+from unittest import mock
 
 from tools.common.repository import TOP
 
@@ -21,11 +28,28 @@ def modules() -> list[pathlib.Path]:
     return [it for folder in folders for it in folder.glob("*.py") if it.stem != "__init__"]
 
 
-def scripts() -> list[str]:
-    """The names of those that read a command line."""
+def scripts() -> dict[str, str]:
+    """The modules that read a command line, by the names of their files."""
     reads = ("parse_args(", "with folder(__doc__)")
-    return [it.stem for it in modules() if '__name__ == "__main__"' in (text := it.read_text())
-            and any(word in text for word in reads)]
+    found = [it.relative_to(TOP).with_suffix("") for it in modules()
+             if '__name__ == "__main__"' in (text := it.read_text())
+             and any(word in text for word in reads)]
+    return {it.name: ".".join(it.parts) for it in found}
+
+
+@functools.cache
+def help_of(module: str) -> tuple[object, str]:
+    """How a module ends that is run here for its help, and what it prints."""
+    with (
+        mock.patch.object(sys, "argv", [f"{module.rpartition('.')[2]}.py", "--help"]),
+        warnings.catch_warnings(action="ignore"),
+        contextlib.redirect_stdout(io.StringIO()) as printed,
+    ):
+        try:
+            runpy.run_module(module, run_name="__main__")
+        except SystemExit as end:
+            return end.code, printed.getvalue()
+    return "no end", printed.getvalue()
 
 
 def started(name: str, *words: str) -> subprocess.CompletedProcess[str]:
@@ -38,11 +62,18 @@ def started(name: str, *words: str) -> subprocess.CompletedProcess[str]:
 class Scripts(unittest.TestCase):
     def test_each_shows_its_help(self) -> None:
         self.assertGreater(len(scripts()), 40)
-        for name in scripts():
+        for name, module in scripts().items():
+            with self.subTest(name):
+                status, printed = help_of(module)
+                self.assertEqual(status, 0)
+                self.assertTrue(printed.startswith(f"usage: {name}.py "), printed[:80])
+
+    def test_they_start_from_another_folder(self) -> None:
+        for name in ("prove_program", "check_python", "after_gate", "package_deb", "queries"):
             with self.subTest(name):
                 ended = started(name, "--help")
                 self.assertEqual((ended.returncode, ended.stderr), (0, ""))
-                self.assertTrue(ended.stdout.startswith("usage: "), ended.stdout[:80])
+                self.assertIn("usage: ", ended.stdout)
 
     def test_options_that_pages_name_are_there(self) -> None:
         texts = [it.read_text() for it in (*TOP.glob("*.md"), *TOP.glob("docs/*.md"))]
@@ -51,7 +82,7 @@ class Scripts(unittest.TestCase):
         self.assertGreater(len(named), 5)
         for name, option in sorted(named):
             with self.subTest(name):
-                self.assertRegex(started(name, "--help").stdout, rf"{option}\b")
+                self.assertRegex(help_of(scripts()[name])[1], rf"{option}\b")
 
     def test_a_name_without_a_script_is_refused(self) -> None:
         for name in ("absent", "../gate/gate_time", "tables"):
@@ -64,9 +95,9 @@ class Scripts(unittest.TestCase):
 
     def test_what_a_release_has_starts_by_its_path(self) -> None:
         for name in ("try_dialogue", "show_run"):
-            ended = subprocess.run(["/usr/bin/env", "-i", "PATH=/usr/local/bin:/usr/bin:/bin",
-                                    "python3", TOP / "tools" / "user" / f"{name}.py", "--help"],
-                                   cwd="/", capture_output=True, text=True)
+            script = TOP / "tools" / "user" / f"{name}.py"
+            ended = subprocess.run([sys.executable, "-I", script, "--help"], cwd="/",
+                                   capture_output=True, text=True)
             self.assertEqual((ended.returncode, ended.stderr), (0, ""))
 
 

@@ -101,7 +101,8 @@ class Requests:
 
     def leaf(self) -> str:
         """A text, or a comment."""
-        text = 'text {"%s"}' % self.random.choice(("x", "y", "zz", "1", "2", "10"))
+        value = self.random.choice(("x", "y", "zz", "1", "2", "10"))
+        text = f'text {{"{value}"}}'
         return self.random.choice((text, text, text, 'comment {"c"}'))
 
     def element(self, level: int) -> str:
@@ -109,19 +110,20 @@ class Requests:
         parts = []
         if self.random.random() < 0.5:
             name = self.random.choice(("id", "a", "k"))
-            parts.append('attribute %s {"%d"}' % (name, self.random.randint(0, 5)))
+            value = self.random.randint(0, 5)
+            parts.append(f'attribute {name} {{"{value}"}}')
         while self.room > 0 and len(parts) < 40 and self.random.random() < 0.75:
             self.room -= 1
             is_inner = level < 8 and self.random.random() < 0.72
             parts.append(self.element(level + 1) if is_inner else self.leaf())
         name = self.random.choice(NAMES[:self.random.randint(1, len(NAMES))])
-        return "element %s {%s}" % (name, ", ".join(parts))
+        return f"element {name} {{{', '.join(parts)}}}"
 
     def document(self) -> str:
         """The constructor of a document."""
         self.room = self.random.choice(SIZES)
         parts = [self.element(1) for _ in range(self.random.randint(1, 6))]
-        return "document {element r {%s}}" % ", ".join(parts)
+        return f"document {{element r {{{', '.join(parts)}}}}}"
 
     def path(self) -> str:
         """A path from the document, of one to three steps."""

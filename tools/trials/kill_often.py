@@ -118,7 +118,7 @@ def main() -> int:
         command = [program, "--file", pathlib.Path(folder) / "x.db"]
         counts = kill(command, given.times, random.Random(given.seed))
     for name, count in counts.items():
-        print("%-32s %d" % (name, count))
+        print(f"{name:<32} {count}")
     return 1 if counts["neither"] or counts["refused"] else 0
 
 

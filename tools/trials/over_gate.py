@@ -34,12 +34,12 @@ def check_words(verb: str, name: str, clone: str) -> list[str]:
     uses = libraries(os.path.join("..", "..", "crates.txt"))[name]
     source = "src/main.rt" if os.path.exists("src/main.rt") else "src/lib.rt"
     words = [KIT + "/bin/rattle", verb, "--crate-name", name, source,
-             "--extern", "std=%s/rlibs/std.rlib" % KIT, "-L", "dependency=%s/rlibs" % KIT]
+             "--extern", f"std={KIT}/rlibs/std.rlib", "-L", f"dependency={KIT}/rlibs"]
     for used in uses:
-        folder = "%s/crates/%s/out/rlib" % (clone, used) if used in crates else KIT + "/rlibs"
-        words += ["--extern", "%s=%s/%s.rlib" % (used, folder, used)]
+        folder = f"{clone}/crates/{used}/out/rlib" if used in crates else KIT + "/rlibs"
+        words += ["--extern", f"{used}={folder}/{used}.rlib"]
     for below in all_below(uses, crates):
-        words += ["-L", "dependency=%s/crates/%s/out/rlib" % (clone, below)]
+        words += ["-L", f"dependency={clone}/crates/{below}/out/rlib"]
     return words + ["--antt-project", KIT + "/rattle/logic/antt-project.json",
                     "--logic-built", KIT + "/logic_built", "--links", name + "=", "--jobs", "2"]
 

@@ -82,8 +82,8 @@ QUESTIONS: tuple[tuple[str, Callable[[Document], str]], ...] = (
     ('string-join(for $r in {0}//row return string($r), "-")',
      lambda rows: '"' + "-".join(text for _, text in rows) + '"'),
     ("count({0}//row/following-sibling::row[1])", lambda rows: str(max(len(rows) - 1, 0))),
-    ("element copy {{{0}//row[position() <= 3]}}", lambda rows: "element copy {%s}" % ", ".join(
-        printed_row(it) for it in rows[:3])),
+    ("element copy {{{0}//row[position() <= 3]}}", lambda rows: (
+        f"element copy {{{', '.join(map(printed_row, rows[:3]))}}}")),
 )
 REFUSED: tuple[tuple[bytes, str], ...] = (
     (b"1 div 0", "FOAR0001"), (b"(", "XPST0003"), (b"1 + $q", "XPST0008"),

@@ -22,7 +22,7 @@ from tools.common.repository import TOP
 
 REFUSED = (1, "xq_server: cannot open the store\n")
 # The library under `b`, as the last program of edition 1 (501483a) stored it in a new file.
-EDITION_ONE = pathlib.Path(__file__).resolve().parent / "edition1.db"
+EDITION_ONE = TOP / "tools" / "rows" / "edition1.db"
 # Bytes that no file of a server may pass: its log is made, and has room for some stores.
 FULL = 300_000
 wrong: list[str] = []
@@ -30,8 +30,8 @@ wrong: list[str] = []
 
 def check(what: str, found: object, wanted: object) -> None:
     """Prints whether the one is the other."""
-    verdict = "ok" if found == wanted else "found %r, wanted %r" % (found, wanted)
-    print("%-52s %s" % (what, verdict), flush=True)
+    verdict = "ok" if found == wanted else f"found {found!r}, wanted {wanted!r}"
+    print(f"{what:<52} {verdict}", flush=True)
     if found != wanted:
         wrong.append(what)
 
@@ -58,7 +58,7 @@ def restarts(program: pathlib.Path, path: pathlib.Path) -> None:
 
 def reads_with_sqlite(path: pathlib.Path) -> None:
     """The tables are as documented, to other readers of such files."""
-    rows = sqlite3.connect("file:%s?mode=ro" % path, uri=True).execute(
+    rows = sqlite3.connect(f"file:{path}?mode=ro", uri=True).execute(
         "SELECT pre, size, level, kind, name, value FROM node2 INNER JOIN label ON label = id "
         "WHERE address = 'a' ORDER BY pre"
     ).fetchall()
@@ -156,7 +156,7 @@ def other_orders(program: pathlib.Path, folder: pathlib.Path) -> None:
     """Tables that sqlite3 made are served, in either order."""
     orders = ((LAYOUT, NODE, ONE), (NODE, LAYOUT, ONE))
     for number, made in enumerate(orders):
-        path = written_by_sqlite(folder / ("order%d.db" % number), *made)
+        path = written_by_sqlite(folder / f"order{number}.db", *made)
         server = Server([program, "--file", path])
         check("tables in another order: stored",
               server.ask(b"S", store(b"b", LIBRARY)), (0, b"stored"))
@@ -169,7 +169,7 @@ def other_orders(program: pathlib.Path, folder: pathlib.Path) -> None:
 
 def rows_of(path: pathlib.Path, query: str) -> list[tuple[int | str, ...]]:
     """What a query gives of a file that no server has."""
-    base = sqlite3.connect("file:%s?mode=ro" % path, uri=True)
+    base = sqlite3.connect(f"file:{path}?mode=ro", uri=True)
     rows = base.execute(query).fetchall()
     base.close()
     return rows
@@ -182,7 +182,7 @@ def carried_over(program: pathlib.Path, folder: pathlib.Path) -> None:
              written_by_sqlite(folder / "layout_first.db", LAYOUT, NODE, ONE, BOOKS),
              written_by_sqlite(folder / "node_first.db", NODE, BOOKS, LAYOUT, ONE)]
     for path in paths:
-        check("%s has edition 1" % path.name, rows_of(path, "SELECT edition FROM layout"), [(1,)])
+        check(f"{path.name} has edition 1", rows_of(path, "SELECT edition FROM layout"), [(1,)])
         server = Server([program, "--file", path])
         check("  its document is read", server.ask(b"Q", b'doc("b")'), (0, LIBRARY))
         check("  another is stored", server.ask(b"S", store(b"c", LIBRARY)), (0, b"stored"))
@@ -207,7 +207,7 @@ def element(chance: random.Random) -> str:
     """An element, which may have an attribute and a text."""
     parts = chance.choice(("", 'attribute id {"%d"}')), chance.choice(("", 'text {"%d"}'))
     content = ", ".join(part % chance.randrange(3) for part in parts if part)
-    return "element %s {%s}" % (chance.choice("abc"), content)
+    return f"element {chance.choice('abc')} {{{content}}}"
 
 
 def edit(chance: random.Random, elements: list[str]) -> None:
@@ -233,13 +233,13 @@ def edited(program: pathlib.Path, folder: pathlib.Path) -> None:
     full = b'document {text {string-join(for $n in 1 to 10484 return "%s", "")}}' % (b"x" * 100)
     for seed in range(6):
         chance = random.Random(seed)
-        path, fresh = folder / ("edited%d.db" % seed), folder / ("fresh%d.db" % seed)
+        path, fresh = folder / f"edited{seed}.db", folder / f"fresh{seed}.db"
         elements = [element(chance) for _ in range(600 if seed == 0 else 20)]
         words = [program, "--file", path, "--kept", "1"]
         server = Server(words)
         server.ask(b"S", store(b"a", full))
         for _ in range(12):
-            text = ("document {%s}" % ", ".join(elements)).encode()
+            text = f"document {{{', '.join(elements)}}}".encode()
             server.ask(b"S", store(b"b", text))
             if chance.randrange(3) == 0:
                 server.end()
@@ -370,7 +370,7 @@ def main() -> int:
           (help_text.returncode, b"--file <PATH>" in help_text.stdout), (0, True))
     bad = subprocess.run([program, "--file"], stdin=subprocess.DEVNULL, capture_output=True)
     check("--file alone", (bad.returncode, bad.stderr), (2, b"xq_server: bad command line\n"))
-    print("wrong: %d" % len(wrong))
+    print(f"wrong: {len(wrong)}")
     return 1 if wrong else 0
 
 

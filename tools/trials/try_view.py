@@ -95,8 +95,8 @@ def is_right(program: str, moved: str | None, answer: tuple[int, str, str]) -> b
     added = [at for at, line in lines if line.strip() and line not in usual]
     errors = [line for line in (messages + written).splitlines() if "error[" in line]
     return (status == 1 and len(added) == 1 == len(errors)
-            and errors[0].startswith("src/main.rt:%d:" % added[0])
-            and "borrow of moved value: `%s`" % moved in errors[0])
+            and errors[0].startswith(f"src/main.rt:{added[0]}:")
+            and f"borrow of moved value: `{moved}`" in errors[0])
 
 
 def main() -> int:
@@ -106,7 +106,7 @@ def main() -> int:
     with tempfile.TemporaryDirectory() as scratch:
         begin(scratch, crates_below(USES), ("out", "must-fail", "more-edits"))
         with open(os.path.join(scratch, "crates.txt"), "a") as lines:
-            lines.write("program: %s\n" % " ".join(USES))
+            lines.write(f"program: {' '.join(USES)}\n")
         folder = os.path.join(scratch, "crates", "program")
         os.makedirs(os.path.join(folder, "src"))
         for what, within, after, moved in TRIED:
@@ -114,7 +114,7 @@ def main() -> int:
             answer = said(folder, program)
             right = is_right(program, moved, answer)
             wrong += not right
-            print("%-40s %s" % (what, "ok" if right else answer), flush=True)
+            print(f"{what:<40} {'ok' if right else answer}", flush=True)
     return 1 if wrong else 0
 
 

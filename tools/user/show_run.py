@@ -47,7 +47,7 @@ def shown_request(body: bytes) -> tuple[int, str]:
     (tag,), kind, rest = struct.unpack_from(">I", body), body[4:5], body[5:]
     if kind == b"S" and rest:
         address, text = rest[1 : 1 + rest[0]], rest[1 + rest[0] :]
-        return tag, "store under %s: %s" % (address.decode(), text.decode())
+        return tag, f"store under {address.decode()}: {text.decode()}"
     if kind == b"Q":
         return tag, "query: " + rest.decode()
     if kind == b"D":
@@ -59,7 +59,7 @@ def shown_request(body: bytes) -> tuple[int, str]:
 
 def shown_reply(body: bytes) -> tuple[int, str]:
     (tag,), status, text = struct.unpack_from(">I", body), body[4], body[5:]
-    return tag, "%s: %s" % (STATUS.get(status, "status %d" % status), text.decode())
+    return tag, f"{STATUS.get(status, f'status {status}')}: {text.decode()}"
 
 
 def main() -> int:
@@ -81,7 +81,7 @@ def main() -> int:
             print("  reply %d  %s" % replies[number])
         else:
             print("  no reply")
-    print("end: status %d" % done.returncode)
+    print(f"end: status {done.returncode}")
     return done.returncode
 
 

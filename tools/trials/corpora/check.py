@@ -88,7 +88,7 @@ def run(given: argparse.Namespace) -> int:
         if outcome == wanted:
             right[wanted] += 1
         else:
-            print("%s: %s" % (outcome, row["q"]))
+            print(f"{outcome}: {row['q']}")
     for kind in ("passed",) + CODES:
-        print("%s %d of %d" % (kind, right[kind], total[kind]))
+        print(f"{kind} {right[kind]} of {total[kind]}")
     return 0 if right == total else 1

@@ -73,7 +73,7 @@ def write_crate(folder: str, documents_by_address: dict[str, str]) -> str:
     """A crate over the others, with the documents and no rows yet; gives its folder."""
     begin(folder, CRATES, leave_out=("must-fail",))
     with open(os.path.join(folder, "crates.txt"), "a") as lines:
-        lines.write("%s: %s sqlite_items\n" % (CRATE, " ".join(CRATES)))
+        lines.write(f"{CRATE}: {' '.join(CRATES)} sqlite_items\n")
     crate = os.path.join(folder, "crates", CRATE)
     write(f"{crate}/src/lib.rt", "//! Rows of a corpus.\n#![tactic(auto)]\n")
     write(f"{crate}/specs/Lib.antt", "")
@@ -138,6 +138,6 @@ def run(given: argparse.Namespace) -> int:
     for row in rows:
         if row.name in faults:
             query = json.dumps(row.query, ensure_ascii=False)
-            print("%s: %s: %s" % (row.name, told(faults[row.name]), query))
-    print("agree %d of %d" % (len(rows) - len(faults), len(rows)))
+            print(f"{row.name}: {told(faults[row.name])}: {query}")
+    print(f"agree {len(rows) - len(faults)} of {len(rows)}")
     return 1 if faults else 0

@@ -38,7 +38,7 @@ def answers(server: harness.Server, documents: dict[str, str],
     for query in queries:
         status, answer = server.answer(b"Q", query.encode())
         if status != 0:
-            sys.exit("refused as %s: %s" % (answer.decode(), query))
+            sys.exit(f"refused as {answer.decode()}: {query}")
         yield query, answer
     for address in documents:
         server.ask(b"D", address.encode())
@@ -62,5 +62,5 @@ def run(given: argparse.Namespace) -> int:
             again = empty.ask(b"Q", text)
             if again != (0, text):
                 sys.exit("%s\nanswers %r\nwhich reads back as %s" % (query, text[:400], again))
-    print("%d replies give themselves; %d are longer than a frame" % (count, long))
+    print(f"{count} replies give themselves; {long} are longer than a frame")
     return 0
