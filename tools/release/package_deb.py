@@ -65,6 +65,8 @@ class NotPackaged(Exception):
 
 def run(words: Sequence[str], environment: Mapping[str, str] | None = None) -> str:
     """What a command prints; NotPackaged where it fails."""
+    if shutil.which(words[0]) is None:
+        raise NotPackaged(f"{words[0]} is not installed")
     ended = subprocess.run(words, capture_output=True, text=True, env=environment, cwd=TOP)
     if ended.returncode:
         raise NotPackaged(f"{shlex.join(words)}: {ended.stderr.strip()}")
