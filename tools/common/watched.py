@@ -83,7 +83,7 @@ def lone(path: pathlib.Path, wait: Callable[[], None]) -> IO[str]:
     The file is made where it is not there. `wait` is called first where another process holds it.
     Raises OSError where the file cannot be made."""
     path.parent.mkdir(parents=True, exist_ok=True)
-    lock = open(path, "w", encoding="utf-8")
+    lock = open(path, "w", encoding="utf-8")  # noqa: SIM115 (it is closed by whoever waits)
     try:
         fcntl.flock(lock, fcntl.LOCK_EX | fcntl.LOCK_NB)
     except BlockingIOError:

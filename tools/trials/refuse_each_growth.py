@@ -128,13 +128,13 @@ class Program:
             taken.seek(0)
             return Ended(taken.read(), done.stderr.strip(), done.returncode)
 
-    @functools.cache
+    @functools.cache  # noqa: B019 (there are two programs, both to the end)
     def without(self, place: int) -> tuple[Reply, ...]:
         """The replies of a server that never gets the frame at this place."""
         frames = self.sent
         return tuple(self.told([*frames[:place], *frames[place + 1:], TOO_LONG]))
 
-    @functools.cache
+    @functools.cache  # noqa: B019 (there are two programs, both to the end)
     def documents_after(self, count: int, left_out: int = -1) -> tuple[Reply, ...]:
         """What a server tells of its documents after so many frames, but for one."""
         frames = [it for place, it in enumerate(self.sent[:count]) if place != left_out]
