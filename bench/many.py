@@ -87,7 +87,8 @@ def medians(server: Server, query: str, changed: str) -> tuple[float, float, flo
     ask(server, query)
     for turn in range(TURNS):
         alone.append(seconds(lambda: ask(server, query)))
-        stores.append(seconds(lambda turn=turn: put(server, changed, document(turn))))
+        # (each is called at once)
+        stores.append(seconds(lambda: put(server, changed, document(turn))))  # noqa: B023
         after.append(seconds(lambda: ask(server, query)))
     whole, beside, stored = (statistics.median(them) * 1e3 for them in (alone, after, stores))
     return whole, beside, stored
@@ -145,7 +146,7 @@ def show_openings(program: Sequence[object], folder: pathlib.Path, most_rows: in
             rows += part
         server.end()
         server = Server([*program, "--file", path])
-        spent = seconds(lambda server=server: server.ask(b"L"))
+        spent = seconds(lambda: server.ask(b"L"))  # noqa: B023
         print(f"opening a file of {wanted:,} rows: {spent:.2f} s, {most_memory(server):,.0f} MB",
               flush=True)
         server.end()
