@@ -152,7 +152,7 @@ def mutated(chosen: random.Random, text: str) -> str:
 class Tables(unittest.TestCase):
     @unittest.skipUnless((TOP / "crates").exists(), "a release has no definitions of the server")
     def test_the_client_has_the_tables_of_the_server(self) -> None:
-        words = [TOP / "tools" / "run", "client_tables", "--check"]
+        words = [str(TOP / "tools" / "run"), "client_tables", "--check"]
         found = subprocess.run(words, capture_output=True, text=True)
         self.assertEqual(found.returncode, 0, found.stderr)
 
