@@ -1,9 +1,7 @@
 """Times the axes over documents of ten thousand and of a hundred thousand elements, from each
 source of rows.
 
-usage: axes.py [--runs N] [FOLDER]
-
-Builds bench/axes/main.rattle in the folder, unless an earlier call did.
+    tools/run axes [--runs N] [FOLDER]     builds its program there, unless an earlier call did
 
 The documents have the shape of the library that queries are measured on, made as rows. They are
 read from trees in memory ("memory"), from a view of a store that has read nothing of them ("first")
@@ -22,15 +20,12 @@ rows that it gives are dropped. These three are timed in turn, five times.
 """
 
 import argparse
-import os
 import subprocess
 import sys
 import tempfile
 from typing import TypeAlias
 
-TOP = os.path.join(os.path.dirname(os.path.abspath(__file__)), "..")
-sys.path.insert(0, os.path.join(TOP, "tools"))
-from workspace import bench_program
+from tools.common.workspace import bench_program
 
 USES = (
     "xq_atoms", "xq_trees", "xq_sources", "xq_memory_disk", "xq_store", "xq_expressions",
@@ -82,8 +77,7 @@ def times(program: str, size: int, runs: int) -> Table:
 def table_of(source: str, few: Table, many: Table) -> bool:
     """Prints the table of a source, and tells whether each growth is within the bound."""
     within = True
-    print("%-34s %8s %8s %9s %9s %7s %7s" %
-          (source, "nodes", "rows", "ms", "ms", "loops", "growth"))
+    print(f"{source:<34} {'nodes':>8} {'rows':>8} {'ms':>9} {'ms':>9} {'loops':>7} {'growth':>7}")
     plain = many["bare", LOOP][1]
     for (one, name), (given, time, read) in many.items():
         if one != source:
@@ -91,9 +85,8 @@ def table_of(source: str, few: Table, many: Table) -> bool:
         before = few[one, name][1]
         growth = time / before if before > SHORT else None
         within = within and (growth is None or growth <= MOST or name in SINGLY)
-        print("%-34s %8d %8d %9.2f %9.2f %7.1f %7s" %
-              (name, given, read, before / 1000, time / 1000, time / max(plain, 1),
-               "" if growth is None else "%.1f" % growth))
+        print(f"{name:<34} {given:8d} {read:8d} {before / 1000:9.2f} {time / 1000:9.2f} "
+              f"{time / max(plain, 1):7.1f} {'' if growth is None else round(growth, 1):>7}")
     return within
 
 
@@ -103,26 +96,25 @@ def first_reading(table: Table) -> bool:
     given, time, _ = table["bare", FIRST]
     whole = table["bare", WHOLE][1]
     ratio = time / whole
-    print("first reading of %d rows: %.1f ms; the statement alone %.1f ms, %.2f times" %
-          (given, time / 1000, whole / 1000, ratio))
+    print(f"first reading of {given} rows: {time / 1000:.1f} ms; the statement alone "
+          f"{whole / 1000:.1f} ms, {ratio:.2f} times")
     for name in (PARTS, LONG_PARTS):
         parts = table["bare", name][1]
-        print("  %s: %.1f ms, %.2f times" % (name, parts / 1000, time / parts))
+        print(f"  {name}: {parts / 1000:.1f} ms, {time / parts:.2f} times")
     return ratio <= MOST_FIRST
 
 
 def report(few: Table, many: Table) -> int:
     """Prints the tables, and whether each growth and the first reading are within the bounds."""
-    print("plain loop over %d rows: %.2f ms, %d: %.2f ms" %
-          (few["bare", LOOP][2], few["bare", LOOP][1] / 1000,
-           many["bare", LOOP][2], many["bare", LOOP][1] / 1000))
+    print(f"plain loop over {few['bare', LOOP][2]} rows: {few['bare', LOOP][1] / 1000:.2f} ms, "
+          f"{many['bare', LOOP][2]}: {many['bare', LOOP][1] / 1000:.2f} ms")
     for source in NEAR:
         table_of(source, few, many)
     grown = [table_of(source, few, many) for source in SOURCES]
-    print("each growth at most %d times: %s" % (MOST, "yes" if all(grown) else "no"))
+    print(f"each growth at most {MOST} times: {'yes' if all(grown) else 'no'}")
     first = [first_reading(table) for table in (few, many)]
-    print("the first reading at most %.1f times the statement: %s" %
-          (MOST_FIRST, "yes" if first[-1] else "no"))
+    print(f"the first reading at most {MOST_FIRST:.1f} times the statement: "
+          f"{'yes' if first[-1] else 'no'}")
     return 0 if all(grown) and first[-1] else 1
 
 

@@ -1,21 +1,18 @@
 """Builds, copies and prints elements of some 10^5 and 10^6 items; prints times, ratios and MB/s.
 
-usage: build.py [FOLDER]    builds bench/build/main.rattle there, unless an earlier call did
+    tools/run build [FOLDER]     builds its program there, unless an earlier call did
 
 A time is the least of fifteen runs, and begins with empty caches; the two sizes are run in turn,
 since the machine's speed changes.
 """
 
-import os
 import subprocess
 import sys
-import tempfile
 from collections.abc import Sequence
 from typing import TypeAlias
 
-TOP = os.path.join(os.path.dirname(os.path.abspath(__file__)), "..")
-sys.path.insert(0, os.path.join(TOP, "tools"))
-from workspace import bench_program
+from bench.command_line import folder
+from tools.common.workspace import bench_program
 
 USES = (
     "xq_atoms", "xq_expressions", "xq_trees", "xq_sources", "xq_meaning", "xq_build",
@@ -34,18 +31,18 @@ Turn: TypeAlias = tuple[int, int, list[float]]
 
 def once(program: str, kind: str, size: int) -> Turn:
     """The rows of the element, the bytes that it prints as, and the times in milliseconds."""
-    given = ("%s %d" % (kind, size)).encode()
+    given = f"{kind} {size}".encode()
     ran = subprocess.run([program], input=given, stdout=subprocess.PIPE, check=True)
     words = ran.stdout.decode().split()
     if words[0] == "refused":
-        sys.exit("%s %d: refused" % (kind, size))
+        sys.exit(f"{kind} {size}: refused")
     return int(words[0]), int(words[1]), [int(word) / 1000 for word in words[2:]]
 
 
 def least(turns: Sequence[Turn]) -> Turn:
     """The rows and the bytes, and the least times, of several turns of one size."""
     rows, length, _ = turns[0]
-    return rows, length, [min(times) for times in zip(*(turn[2] for turn in turns))]
+    return rows, length, [min(times) for times in zip(*(turn[2] for turn in turns), strict=True)]
 
 
 def measure(program: str) -> None:
@@ -55,18 +52,19 @@ def measure(program: str) -> None:
     for kind, sizes in KINDS:
         rounds = [[once(program, kind, size) for size in sizes] for _ in range(RUNS)]
         before: list[float] = []
-        for size, turns in zip(sizes, zip(*rounds)):
+        for size, turns in zip(sizes, zip(*rounds, strict=True), strict=True):
             rows, length, times = least(turns)
-            ratios = " ".join("%5.1f" % (now / then) for now, then in zip(times, before))
-            print("%-11s %8d %8d %9.1f %9.1f %9.1f %9.1f   %s"
-                  % (kind, size, rows, times[0], times[1], times[2], length / times[2] / 1000,
-                     ratios), flush=True)
+            ratios = " ".join(f"{now / then:5.1f}"
+                              for now, then in zip(times, before, strict=False))
+            print(f"{kind:<11} {size:8d} {rows:8d} {times[0]:9.1f} {times[1]:9.1f} "
+                  f"{times[2]:9.1f} {length / times[2] / 1000:9.1f}   {ratios}", flush=True)
             before = times
 
 
 def main() -> None:
-    with tempfile.TemporaryDirectory() as scratch:
-        measure(bench_program(sys.argv[1] if len(sys.argv) > 1 else scratch, "build", USES))
+    """Builds and measures."""
+    with folder(__doc__) as room:
+        measure(bench_program(room, "build", USES))
 
 
 if __name__ == "__main__":

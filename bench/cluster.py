@@ -1,7 +1,6 @@
-#!/usr/bin/env python3
 """What a replicated log costs, and what nodes over it bring: three brokers and nodes, on loopback.
 
-    bench/cluster.py [--server WORDS] [--seconds N] [--runs N] [--elements N] [NAME ..]
+    tools/run cluster [--server WORDS] [--seconds N] [--runs N] [--elements N] [NAME ..]
 
 It wants rabbitmq-server and python3-aio-pika of Debian, and so Debian's python3. Measured in turn,
 medians of the runs: stores with 64 in flight, by one server on a file, by one node over three
@@ -27,18 +26,14 @@ from collections import deque
 from collections.abc import Sequence
 from concurrent.futures import ThreadPoolExecutor
 
-TOP = pathlib.Path(__file__).resolve().parent.parent
-CLIENT = TOP / "clients" / "python"
-for folder in (TOP / "tools", TOP / "bench", CLIENT / "src", CLIENT, CLIENT / "with_packages"):
-    sys.path.insert(0, str(folder))
-
-from brokers import SCRIPT, Brokers, missing  # noqa: E402
-from clusters import RunningNode  # noqa: E402
-from harness import LIBRARY  # noqa: E402
-from queries import QUERIES, document  # noqa: E402
-
-from xqs import Client, connect  # noqa: E402
-from xqs.cluster import control  # noqa: E402
+from bench.queries import QUERIES, document
+from brokers import SCRIPT, Brokers, missing
+from clusters import RunningNode
+from tools.common.harness import LIBRARY
+from tools.common.repository import TOP
+from tools.common.workspace import use_allocator
+from xqs import Client, connect
+from xqs.cluster import control
 
 FLIGHT, CLIENTS = 64, 6
 ELEMENTS = 100_000
@@ -255,6 +250,7 @@ def main() -> int:
     given = parser.parse_args()
     if why := missing():
         sys.exit(f"cluster: {why}")
+    use_allocator()
     print(f"{versions()}; the load of the machine is {os.getloadavg()[0]:.1f}")
     with Brokers() as brokers, tempfile.TemporaryDirectory(prefix="xqs-bench-") as room:
         bench = Bench(brokers, shlex.split(given.server), pathlib.Path(room), given)

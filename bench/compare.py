@@ -1,8 +1,7 @@
-#!/usr/bin/env python3
 """Times of the queries of bench/queries.py over two programs, over a document of 20,000 elements.
 
-    bench/compare.py PROVED OTHER [ROUNDS]              21 repetitions where none are named
-    bench/compare.py ./serve './serve --unproved'
+    tools/run compare PROVED OTHER [ROUNDS]              21 repetitions where none are named
+    tools/run compare ./serve './serve --unproved'
 
 PROVED and OTHER are commands of a server. Milliseconds of the document's store, of the first reply
 after it, and of each query the least of its repeated replies, which work beside changes least; and
@@ -14,10 +13,10 @@ from __future__ import annotations
 
 import shlex
 import sys
-from collections.abc import Sequence
 
-from engines import Program
-from queries import QUERIES, document
+from bench.engines import Program
+from bench.queries import QUERIES, document
+from tools.common import command_line
 
 ELEMENTS = 20_000
 MOST_TIMES = 3.0
@@ -35,12 +34,14 @@ def least(command: str, rounds: int) -> dict[str, float]:
     return spent
 
 
-def main(words: Sequence[str]) -> int:
+def main() -> int:
     """Prints the table; status 1 where a query takes too many times as long."""
-    if len(words) not in (2, 3):
-        sys.exit(__doc__)
-    rounds = int(words[2]) if len(words) == 3 else 21
-    proved, other = (least(command, rounds) for command in words[:2])
+    words = command_line.parser(__doc__)
+    words.add_argument("proved")
+    words.add_argument("other")
+    words.add_argument("rounds", nargs="?", type=int, default=21)
+    given = words.parse_args()
+    proved, other = (least(command, given.rounds) for command in (given.proved, given.other))
     times = {name: other[name] / spent for name, spent in proved.items()}
     print(f"{'milliseconds':20} {'proved':>9} {'other':>9} {'times':>7}")
     for name, spent in proved.items():
@@ -49,4 +50,4 @@ def main(words: Sequence[str]) -> int:
 
 
 if __name__ == "__main__":
-    sys.exit(main(sys.argv[1:]))
+    sys.exit(main())

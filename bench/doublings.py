@@ -29,14 +29,14 @@ def once(program: str, text: str, wanted: str) -> int:
     ran = subprocess.run([program], input=text.encode(), stdout=subprocess.PIPE, check=True)
     words = ran.stdout.decode().split()
     if words[0] != wanted:
-        sys.exit("%s, not %s" % (words[0], wanted))
+        sys.exit(f"{words[0]}, not {wanted}")
     return max(1, int(words[1]))
 
 
 def times(program: str, texts: Sequence[str], wanted: str, runs: int) -> list[int]:
     """The least microseconds for each text."""
     rounds = [[once(program, text, wanted) for text in texts] for _ in range(runs)]
-    return [min(column) for column in zip(*rounds)]
+    return [min(column) for column in zip(*rounds, strict=True)]
 
 
 def measure(program: str, queries: Iterable[tuple[str, int, Callable[[int], str]]], wanted: str,
@@ -44,15 +44,15 @@ def measure(program: str, queries: Iterable[tuple[str, int, Callable[[int], str]
     """Prints the times of queries, each a name, its greatest length and what makes a text of a
     length; gives 0 where each doubling is within the bound, and 1 elsewhere."""
     within = True
-    print("%-20s %10s %10s %8s" % ("query", "bytes", "ms", "ratio"))
+    print(f"{'query':<20} {'bytes':>10} {'ms':>10} {'ratio':>8}")
     for name, most, make in queries:
         texts = [make(size) for size in (most // 4, most // 2, most)]
         before: int | None = None
-        for text, time in zip(texts, times(program, texts, wanted, runs)):
+        for text, time in zip(texts, times(program, texts, wanted, runs), strict=True):
             ratio = time / before if before and before > SHORT else None
             within = within and (ratio is None or ratio <= MOST)
-            shown = "" if ratio is None else "%.2f" % ratio
-            print("%-20s %10d %10.2f %8s" % (name, len(text), time / 1000, shown), flush=True)
+            shown = "" if ratio is None else f"{ratio:.2f}"
+            print(f"{name:<20} {len(text):10d} {time / 1000:10.2f} {shown:>8}", flush=True)
             before = time
-    print("each doubling at most %.1f times: %s" % (MOST, "yes" if within else "no"))
+    print(f"each doubling at most {MOST:.1f} times: {'yes' if within else 'no'}")
     return 0 if within else 1

@@ -1,7 +1,7 @@
 """The server and other engines over one document, timed in turn in one run.
 
 Saxon-HE is Debian's libsaxonhe-java, BaseX its basex; a JDK compiles what drives them, the files of
-bench/engines, in a temporary folder. Each makes the document by the query that makes it for the
+bench/peers, in a temporary folder. Each makes the document by the query that makes it for the
 server, and keeps it in memory: Saxon as its tree, BaseX as the nodes that the query makes, and, as
 a third engine, as its database with indexes. A run of an engine is from the text of a query to the
 text of its result, within its process; a run of the server from a request to the last byte of its
@@ -22,15 +22,13 @@ from collections.abc import Iterator, Mapping, Sequence
 from dataclasses import dataclass
 from typing import NamedTuple, Protocol
 
-TOP = pathlib.Path(__file__).resolve().parent.parent
-sys.path[:0] = [str(TOP / "tools"), str(TOP / "clients" / "python" / "src")]
+from tools.common.harness import Server, store
+from tools.common.repository import TOP
+from tools.common.workspace import use_allocator
+from xqs.values import values
+from xqs.xml_out import xml
 
-import workspace  # noqa: E402, F401  (sets the allocator as ./serve does)
-from harness import Server, store  # noqa: E402
-from xqs.values import values  # noqa: E402
-from xqs.xml_out import xml  # noqa: E402
-
-SOURCES = TOP / "bench" / "engines"
+SOURCES = TOP / "bench" / "peers"
 JARS = pathlib.Path("/usr/share/java")
 JAVA = ("java", "-Xmx2g")
 Command = Sequence[str | os.PathLike[str]]
@@ -67,9 +65,12 @@ class Program:
     """A server; how long it takes to read a query isn't told apart."""
 
     def __init__(
-        self, name: str, command: Command, env: Mapping[str, str] | None = None
+        self, name: str, command: Command, added: Mapping[str, str] | None = None
     ) -> None:
-        self.name, self._server, self._reply = name, Server(command, env=env), b""
+        """Starts the server, with `added` to the environment, as ./serve has it."""
+        use_allocator()
+        self.name, self._reply = name, b""
+        self._server = Server(command, env={**os.environ, **(added or {})})
         self._scheduled = pathlib.Path(f"/proc/{self._server.process.pid}/schedstat")
 
     def ask(self, kind: bytes, body: bytes) -> Spent:

@@ -1,19 +1,17 @@
-#!/usr/bin/env python3
 """Times of queries over a document in memory: a source of fragments, no server and no database.
 
-    bench/evaluation.py [--engines] [FOLDER]
+    tools/run evaluation [--engines] [FOLDER]
 
-Builds bench/evaluation/main.rattle in the folder, unless an earlier call did. The queries and the
-document are those of bench/queries.py, of 10,000 and of 100,000 elements. For each: the
-milliseconds for both sizes, the least of four runs of five turns, reading and planning of the query
-included; the same of turns that begin with empty caches, and how many times as long the larger
-takes then; and the rows that it reads. With --engines follow the least milliseconds of other
+Builds its program in the folder, unless an earlier call did. The queries and the document are those
+of bench/queries.py, of 10,000 and of 100,000 elements. For each: the milliseconds for both sizes,
+the least of four runs of five turns, reading and planning of the query included; the same of turns
+that begin with empty caches, and how many times as long the larger takes then; and the rows that it
+reads. With --engines follow the least milliseconds of other
 engines for 100,000 elements (bench/engines.py), as far as they are installed, of 15 runs after 5,
 right after ours. The smaller document lies in the processor's caches from one turn to the next and
 the larger doesn't, so growth is judged where neither does.
 """
 import argparse
-import os
 import pathlib
 import subprocess
 import sys
@@ -21,12 +19,10 @@ import tempfile
 from collections.abc import Iterable, Sequence
 from typing import TypeAlias
 
-TOP = os.path.join(os.path.dirname(os.path.abspath(__file__)), "..")
-sys.path[:0] = [os.path.join(TOP, "tools"), os.path.join(TOP, "bench")]
-from bounds import figure, row
-from engines import DATABASE, NODES, SAXON, driven, in_turn, warm_up
-from queries import LARGE, QUERIES, document
-from workspace import bench_program
+from bench.bounds import figure, row
+from bench.engines import DATABASE, NODES, SAXON, driven, in_turn, warm_up
+from bench.queries import LARGE, QUERIES, document
+from tools.common.workspace import bench_program
 
 USES = ("xq_atoms", "xq_queries", "xq_sources")
 # The most that a time may grow where the document grows tenfold.
@@ -51,13 +47,14 @@ def figures(program: str, elements: int) -> list[Figures]:
     groups = [turns[n:n + TURNS] for n in range(0, len(turns), TURNS)]
     least = [min(turn[0] for turn in group) / 1000 for group in groups]
     return [(near, far, group[-1][2])
-            for near, far, group in zip(least[::2], least[1::2], groups[::2])]
+            for near, far, group in zip(
+                least[::2], least[1::2], groups[::2], strict=False)]
 
 
 def least(runs: Iterable[Sequence[Figures]]) -> list[Figures]:
     """For each query the least times of several runs."""
     return [(min(turn[0] for turn in turns), min(turn[1] for turn in turns), turns[0][2])
-            for turns in zip(*runs)]
+            for turns in zip(*runs, strict=True)]
 
 
 def of_engines(is_wanted: bool, scratch: str) -> tuple[list[str], list[list[str]]]:
@@ -79,13 +76,13 @@ def main() -> int:
         program = bench_program(given.folder or scratch, "evaluation", USES)
         rounds = [(figures(program, LARGE // 10), figures(program, LARGE)) for _ in range(ROUNDS)]
         names, others = of_engines(given.engines, scratch)
-    small, large = (least(runs) for runs in zip(*rounds))
+    small, large = (least(runs) for runs in zip(*rounds, strict=True))
     heads = ("Query", "10,000", "100,000", "from memory", "from memory", "growth", "rows read")
     print(row([*heads, *names]))
     print("|" + "---|" * len([*heads, *names]))
     within = True
     for (name, _), (little, before, _), (much, time, rows), beside in zip(
-            QUERIES, small, large, others):
+            QUERIES, small, large, others, strict=False):
         within = within and time / before <= MOST
         ours = [f"{it:.1f}" for it in (little, much, before, time, time / before)]
         print(row([name, *ours, rows, *beside]))

@@ -8,7 +8,8 @@ import platform
 import re
 import subprocess
 
-TOP = pathlib.Path(__file__).resolve().parent.parent
+from tools.common.repository import TOP
+
 PAGE = TOP / "docs" / "MEASURES.md"
 
 

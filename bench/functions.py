@@ -1,9 +1,6 @@
-#!/usr/bin/env python3
 """Times of functions and operators over long inputs, and how they grow.
 
-    bench/functions.py [FOLDER]
-
-Builds bench/evaluation/main.rattle in the folder, unless an earlier call did.
+    tools/run functions [FOLDER]     builds its program there, unless an earlier call did
 
 Each line is a function of a long list or text, evaluated over a source in memory, eight times in
 one query: milliseconds of one of the eight for 100,000 and for 1,000,000 items or characters, the
@@ -12,10 +9,10 @@ larger takes, at most 15. An argument is copied for each call, which is counted.
 """
 import subprocess
 import sys
-import tempfile
 
-from evaluation import TURNS, USES
-from workspace import bench_program
+from bench.command_line import folder
+from bench.evaluation import TURNS, USES
+from tools.common.workspace import bench_program
 
 SIZES = (100_000, 1_000_000)
 CALLS_EACH = 8
@@ -59,7 +56,7 @@ def times(program: str, size: int) -> list[tuple[float, float]]:
     """Milliseconds of each call, and of its input alone."""
     lines = ["document {element lib {}}"]
     for _, given, call in CALLS:
-        repeated = "count(for $k in 1 to %d return %s)" % (CALLS_EACH, call)
+        repeated = f"count(for $k in 1 to {CALLS_EACH} return {call})"
         parts = ("count($t)", repeated)
         lines += [("let $t := " + given + " return " + part).format(n=size) for part in parts]
     text = "\n".join(lines)
@@ -70,18 +67,19 @@ def times(program: str, size: int) -> list[tuple[float, float]]:
     # (a query makes its input, so turns that begin with empty caches are as the others)
     groups = [found[n:n + 2 * TURNS] for n in range(0, len(found), 2 * TURNS)]
     least = [min(int(words[0]) for words in group) / 1000 for group in groups]
-    pairs = zip(least[::2], least[1::2])
+    pairs = zip(least[::2], least[1::2], strict=True)
     return [(max(0.0, whole - given) / CALLS_EACH, given) for given, whole in pairs]
 
 
 def main() -> int:
-    with tempfile.TemporaryDirectory() as scratch:
-        program = bench_program(sys.argv[1] if len(sys.argv) > 1 else scratch, "evaluation", USES)
+    """Builds and measures; status 1 where a time grows too fast."""
+    with folder(__doc__) as room:
+        program = bench_program(room, "evaluation", USES)
         small, large = times(program, SIZES[0]), times(program, SIZES[1])
     print("| Function | 100,000 | 1,000,000 | growth | its input |")
     print("|---|---|---|---|---|")
     within = True
-    for (name, *_), (before, _), (time, given) in zip(CALLS, small, large):
+    for (name, *_), (before, _), (time, given) in zip(CALLS, small, large, strict=True):
         ratio = time / before if before > SHORT else None
         within = within and (ratio is None or ratio <= MOST)
         shown = "" if ratio is None else f"{ratio:.1f}"

@@ -1,22 +1,19 @@
-#!/usr/bin/env python3
 """Long texts on one server with 8 MB of stack: each has its answer, and what doubling it costs.
 
-    bench/hostile.py [--server WORDS]
+    tools/run hostile [--server WORDS]
 
 Prints the milliseconds of each text at a quarter, a half and the whole of its size, and how many
 times as long each doubling takes. Ends with 1 where an answer is another one.
 """
 import argparse
-import pathlib
+import itertools
 import resource
 import sys
 import time
 from collections.abc import Callable
 from typing import TypeAlias
 
-TOP = pathlib.Path(__file__).resolve().parent.parent
-sys.path.insert(0, str(TOP / "tools"))
-from harness import LIBRARY, Server, built, store
+from tools.common.harness import LIBRARY, Server, built, store
 
 STACK = 8 * 1024 * 1024
 
@@ -68,7 +65,7 @@ def main() -> None:
     server.ask(b"S", store(b"b", LIBRARY))
     for name, size, text in GROWING:
         spent = [min(asked(server, *text(size // part)) for _ in range(3)) for part in (4, 2, 1)]
-        doublings = [after / before for before, after in zip(spent, spent[1:])]
+        doublings = [after / before for before, after in itertools.pairwise(spent)]
         print(
             f"{name:18} {size:9,}" + "".join(f" {one:9.1f}" for one in spent)
             + "   " + ", ".join(f"{one:.1f}" for one in doublings),

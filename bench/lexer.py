@@ -1,20 +1,18 @@
 """Lexes a megabyte of names, of digits, of nested comments, of one string, of symbols; prints times
 and MB/s.
 
-usage: lexer.py
+    tools/run lexer
 
 A time is the least of five runs, without the program's start and its input.
 """
 
-import os
-import shutil
 import subprocess
 import sys
 import tempfile
 from collections.abc import Callable
 
-sys.path.insert(0, os.path.join(os.path.dirname(os.path.abspath(__file__)), "..", "tools"))
-from workspace import built
+from tools.common import command_line
+from tools.common.workspace import built
 
 CRATES = ("xq_atoms", "xq_lexer")
 SIZES = (262_144, 524_288, 1_048_576)
@@ -76,21 +74,20 @@ def timed(program: str, text: str) -> tuple[int, int]:
 
 
 def main() -> None:
-    folder = tempfile.mkdtemp()
-    try:
+    """Builds and measures."""
+    command_line.parser(__doc__).parse_args()
+    with tempfile.TemporaryDirectory() as folder:
         program = built(folder, CRATES, CRATES, PROGRAM)
-        print("%-22s %10s %8s %10s %8s %8s" % ("text", "bytes", "tokens", "ms", "MB/s", "ratio"))
+        print(f"{'text':<22} {'bytes':>10} {'tokens':>8} {'ms':>10} {'MB/s':>8} {'ratio':>8}")
         for name, make in KINDS:
             before: int | None = None
             for size in SIZES:
                 text = make(size)
                 tokens, time = timed(program, text)
-                ratio = "%8.2f" % (time / before) if before else ""
-                print("%-22s %10d %8d %10.2f %8.1f %8s" % (
-                    name, len(text), tokens, time / 1000, len(text) / time, ratio), flush=True)
+                ratio = f"{time / before:8.2f}" if before else ""
+                print(f"{name:<22} {len(text):10d} {tokens:8d} {time / 1000:10.2f} "
+                      f"{len(text) / time:8.1f} {ratio:>8}", flush=True)
                 before = time
-    finally:
-        shutil.rmtree(folder)
 
 
 if __name__ == "__main__":

@@ -1,7 +1,6 @@
-#!/usr/bin/env python3
 """Queries that take what the evaluator allows, and one more: time, memory and stack of each.
 
-    bench/limits.py [--server WORDS] [--seconds N] [--memory MB]
+    tools/run limits [--server WORDS] [--seconds N] [--memory MB]
 
 Each query has a server of its own, on 8 MB of stack and with the allocator's settings of ./serve,
 which holds a library of two books under `b`. Printed are the milliseconds to the reply, the most
@@ -20,10 +19,8 @@ import sys
 import time
 from dataclasses import dataclass
 
-TOP = pathlib.Path(__file__).resolve().parent.parent
-sys.path.insert(0, str(TOP / "tools"))
-from harness import LIBRARY, Server, built, frame, store
-import workspace  # noqa: F401  (sets the allocator as ./serve does)
+from tools.common.harness import LIBRARY, Server, built, frame, store
+from tools.common.workspace import use_allocator
 
 STACK = 8 << 20
 ONE_LOOP = "for $x in 1 return "
@@ -199,6 +196,7 @@ def main() -> int:
     words.add_argument("--seconds", type=float, default=20)
     words.add_argument("--memory", type=int, default=4096)
     given = words.parse_args()
+    use_allocator()
     command = shlex.split(given.server) if given.server else [str(built())]
     print(f"{'query':30} {'reply':18} {'time':>12} {'the most':>11} {'stack':>10}")
     right = of_limits(command)

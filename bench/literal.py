@@ -1,25 +1,21 @@
 """Stores document literals of 0.25, 0.5 and 1 MB through the server and reads them back; prints
 times and ratios.
 
-usage: literal.py [SERVER]
+    tools/run literal [SERVER]     ./serve where none is named
 
 A run's time is that of the whole program, from its start to its end, less that of a run of an empty
 input; the time of one read is a tenth of ten reads'.
 """
 
-import os
-import struct
 import subprocess
 import sys
 import time
 
-TOP = os.path.dirname(os.path.dirname(os.path.abspath(__file__)))
+from tools.common import command_line
+from tools.common.repository import TOP
+from xqs.protocol import Kind, Status, frame, reply, store_body
+
 READS = 10
-
-
-def frame(tag: int, body: bytes) -> bytes:
-    rest = struct.pack(">I", tag) + body
-    return struct.pack(">I", len(rest)) + rest
 
 
 def literal(size: int) -> str:
@@ -27,9 +23,9 @@ def literal(size: int) -> str:
     books: list[str] = []
     length, number = len("document {element lib {}}"), 0
     while True:
-        book = 'element book {attribute id {"%d"}, text {"title %d"}}' % (number, number)
+        book = f'element book {{attribute id {{"{number}"}}, text {{"title {number}"}}}}'
         if length + len(book) + 2 > size:
-            return "document {element lib {%s}}" % ", ".join(books)
+            return f"document {{element lib {{{', '.join(books)}}}}}"
         books.append(book)
         length += len(book) + 2
         number += 1
@@ -47,24 +43,26 @@ def timed(server: str, data: bytes) -> tuple[float, bytes]:
 
 
 def main() -> None:
-    server = sys.argv[1] if len(sys.argv) > 1 else os.path.join(TOP, "serve")
+    """Measures, and prints the table."""
+    words = command_line.parser(__doc__)
+    words.add_argument("server", nargs="?", default=str(TOP / "serve"), help="(./serve)")
+    server = words.parse_args().server
     empty, _ = timed(server, b"")
     before: tuple[float, ...] = ()
     heads = ("bytes", "nodes", "store ms", "read ms", "ratio", "ratio")
-    print("%10s %8s %12s %12s %8s %8s" % heads)
+    print("{:>10} {:>8} {:>12} {:>12} {:>8} {:>8}".format(*heads))
     for size in (262_144, 524_288, 1_048_576):
         text = literal(size).encode()
         nodes = text.count(b"{")
-        store = frame(1, b"S\x01x" + text)
+        store = frame(1, Kind.STORE, store_body("x", text.decode()))
         stored, _ = timed(server, store)
-        both, output = timed(server, store + READS * frame(2, b'Qdoc("x")'))
-        reply = frame(1, b"\x00stored") + READS * frame(2, b"\x00" + text)
-        if output != reply:
+        both, output = timed(server, store + READS * frame(2, Kind.QUERY, b'doc("x")'))
+        told = reply(1, Status.DONE, b"stored") + READS * reply(2, Status.DONE, text)
+        if output != told:
             sys.exit("the document did not come back as it was stored")
         times = ((stored - empty) * 1000, (both - stored) * 1000 / READS)
-        ratios = ["%8.2f" % (now / then) for now, then in zip(times, before)] or ["", ""]
-        print("%10d %8d %12.1f %12.1f %8s %8s" % (
-            len(text), nodes, times[0], times[1], ratios[0], ratios[1]))
+        ratios = [f"{now / then:8.2f}" for now, then in zip(times, before, strict=False)]
+        print(f"{len(text):10} {nodes:8} {times[0]:12.1f} {times[1]:12.1f} {' '.join(ratios)}")
         before = times
 
 

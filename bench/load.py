@@ -1,7 +1,6 @@
-#!/usr/bin/env python3
 """What it costs to store literal documents, and to store a document again of which little changed.
 
-    bench/load.py [--server WORDS] [--base WORDS] [--rounds N] [literals|edits ..]
+    tools/run load [--server WORDS] [--base WORDS] [--rounds N] [literals|edits ..]
 
 `literals`: three shapes of a literal of one frame, in memory: microseconds a row to read the query,
 of which nothing is evaluated, to read it and make the document, to store it, and to store another
@@ -31,15 +30,21 @@ import tempfile
 import time
 from collections.abc import Iterator, Mapping, Sequence
 
-TOP = pathlib.Path(__file__).resolve().parent.parent
-sys.path[:0] = [str(TOP / "tools"), str(TOP / "bench")]
-
-from bounds import Bound, Times, ratio, said, table  # noqa: E402
-from engines import (  # noqa: E402
-    DATABASE, ON_DISK, RUNS, Command, Driven, Program, Spent, differing, driven)
-from harness import built  # noqa: E402
-from queries import BASE, LARGE, OURS, document  # noqa: E402
-from shapes import SHAPES, Row, pages, rows_of  # noqa: E402
+from bench.bounds import Bound, Times, ratio, said, table
+from bench.engines import (
+    DATABASE,
+    ON_DISK,
+    RUNS,
+    Command,
+    Driven,
+    Program,
+    Spent,
+    differing,
+    driven,
+)
+from bench.queries import BASE, LARGE, OURS, document
+from bench.shapes import SHAPES, Row, pages, rows_of
+from tools.common.harness import built
 
 MAKE = document(LARGE)
 ONE_TEXT = """document {element lib {

@@ -1,7 +1,6 @@
-#!/usr/bin/env python3
 """How long `xqs load` takes for the XML files of a folder, and BaseX for the same, if it is there.
 
-    bench/load_files.py [--server WORDS] [FOLDER]        ./serve and /usr/share where none are named
+    tools/run load_files [--server WORDS] [FOLDER]     ./serve and /usr/share where none are named
 
 The files are loaded by `--names flat`, in memory and on a file, and then BaseX makes a database of
 them, one after the other in one run. What was refused is counted, not listed. The client's own time
@@ -18,14 +17,12 @@ import sys
 import tempfile
 import time
 
-TOP = pathlib.Path(__file__).resolve().parent.parent
-sys.path.insert(0, str(TOP / "clients" / "python" / "src"))
-
-from xqs.incoming import incoming  # noqa: E402
-from xqs.load import XML_FILES, Search  # noqa: E402
-from xqs.temporary import Temporary  # noqa: E402
-from xqs.xml_in import XmlChoices, XmlFault  # noqa: E402
-from xqs.xml_names import Names  # noqa: E402
+from tools.common.repository import TOP
+from xqs.incoming import incoming
+from xqs.load import XML_FILES, Search
+from xqs.temporary import Temporary
+from xqs.xml_in import XmlChoices, XmlFault
+from xqs.xml_names import Names
 
 
 def read(search: Search) -> tuple[int, int]:

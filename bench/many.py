@@ -1,7 +1,6 @@
-#!/usr/bin/env python3
 """What many documents cost: stores, and the queries after them, in memory and on a file.
 
-    bench/many.py [--server WORDS] [--documents N] [--rows N]
+    tools/run many [--server WORDS] [--documents N] [--rows N]
 
 Documents of 99 nodes are stored one after another, 10,000 where no number is named. Shown are
 stores a second, the median over batches of 100, up to 100, 500, 1,000 .. documents; then the median
@@ -21,9 +20,7 @@ import tempfile
 import time
 from collections.abc import Callable, Sequence
 
-TOP = pathlib.Path(__file__).resolve().parent.parent
-sys.path.insert(0, str(TOP / "tools"))
-from harness import Server, built, store
+from tools.common.harness import Server, built, store
 
 BATCH = 100
 TURNS = 21
@@ -90,7 +87,8 @@ def medians(server: Server, query: str, changed: str) -> tuple[float, float, flo
     ask(server, query)
     for turn in range(TURNS):
         alone.append(seconds(lambda: ask(server, query)))
-        stores.append(seconds(lambda: put(server, changed, document(turn))))
+        # (each is called at once)
+        stores.append(seconds(lambda: put(server, changed, document(turn))))  # noqa: B023
         after.append(seconds(lambda: ask(server, query)))
     whole, beside, stored = (statistics.median(them) * 1e3 for them in (alone, after, stores))
     return whole, beside, stored
@@ -103,7 +101,7 @@ def show_stores(name: str, batches: Sequence[float], faults: Faults) -> None:
     rates = [BATCH / statistics.median(batches[max(0, mark // BATCH - 10):mark // BATCH])
              for mark in marks]
     print(f"{name}: stores a second at " + ", ".join(
-        f"{mark:,}: {rate:,.0f}" for mark, rate in zip(marks, rates)), flush=True)
+        f"{mark:,}: {rate:,.0f}" for mark, rate in zip(marks, rates, strict=True)), flush=True)
     faults.judge(f"{name}: stores slow down", rates[0] / rates[-1], 1 / 0.7)
 
 
@@ -148,7 +146,7 @@ def show_openings(program: Sequence[object], folder: pathlib.Path, most_rows: in
             rows += part
         server.end()
         server = Server([*program, "--file", path])
-        spent = seconds(lambda: server.ask(b"L"))
+        spent = seconds(lambda: server.ask(b"L"))  # noqa: B023
         print(f"opening a file of {wanted:,} rows: {spent:.2f} s, {most_memory(server):,.0f} MB",
               flush=True)
         server.end()

@@ -1,6 +1,6 @@
 """Measures what a view holds of a document of a million rows, and what the store keeps of it.
 
-usage: memory.py [FOLDER]    builds bench/axes/main.rattle in the folder, unless an earlier call did
+    tools/run memory [FOLDER]     builds its program there, unless an earlier call did
 
 One process stores the document in a file, another opens it and reads all rows through a view, and
 again through a second one; then all elements are found by their names, and all attributes by their
@@ -15,24 +15,22 @@ documents together are kept at most, by the bound that the store's source has.
 
 import dataclasses
 import os
-import pathlib
 import re
 import subprocess
 import sys
 import tempfile
 from collections.abc import Sequence
 
-HERE = os.path.dirname(os.path.abspath(__file__))
-sys.path.insert(0, HERE)
-sys.path.insert(0, os.path.join(HERE, "..", "tools"))
-from axes import USES
-from workspace import bench_program
+from bench.axes import USES
+from bench.command_line import folder
+from tools.common.repository import TOP
+from tools.common.workspace import bench_program
 
 # The library of so many elements has a million rows.
 ELEMENTS = 414_491
 
 # Where the store's source says how many bytes are kept at most, as 128 << 20.
-ROOM = pathlib.Path(HERE, "..", "crates", "xq_store", "src", "room.rt")
+ROOM = TOP / "crates" / "xq_store" / "src" / "room.rt"
 MOST_KEPT = re.compile(r"^pub\(crate\) const USUAL_BOUND: usize = (\d+) << (\d+);$",
                        re.MULTILINE)
 
@@ -52,7 +50,7 @@ class Stage:
 def counter(folder: str) -> str | None:
     """The library that counts what is allocated, if there is a C compiler."""
     path = os.path.join(folder, "held.so")
-    source = os.path.join(HERE, "store", "held.c")
+    source = str(TOP / "bench" / "store" / "held.c")
     words = ["cc", "-shared", "-fPIC", "-O1", "-o", path, source, "-ldl"]
     try:
         subprocess.run(words, check=True)
@@ -88,13 +86,13 @@ def report(rows: int, found: Sequence[Stage]) -> None:
     """Prints the stages."""
     opened = next(stage.held for stage in found if stage.name == "opened")
     for stage in found:
-        line = "%-8s resident %7.1f MB, at most %7.1f MB" % (
-            stage.name, stage.resident / 1e6, stage.most / 1e6)
+        line = (f"{stage.name:<8} resident {stage.resident / 1e6:7.1f} MB, at most "
+                f"{stage.most / 1e6:7.1f} MB")
         held = stage.held
         if held and opened:
-            line += "   allocated %7.1f MB, at most %7.1f MB; a row %6.1f and %6.1f" % (
-                held[0] / 1e6, held[1] / 1e6,
-                (held[0] - opened[0]) / rows, (held[1] - opened[0]) / rows)
+            a_row = [(it - opened[0]) / rows for it in held]
+            line += (f"   allocated {held[0] / 1e6:7.1f} MB, at most {held[1] / 1e6:7.1f} MB; "
+                     f"a row {a_row[0]:6.1f} and {a_row[1]:6.1f}")
         print(line)
 
 
@@ -102,7 +100,7 @@ def most_kept() -> int:
     """How many bytes are kept of all documents together at most."""
     found = MOST_KEPT.search(ROOM.read_text())
     if found is None:
-        sys.exit("%s does not say how many bytes are kept" % ROOM)
+        sys.exit(f"{ROOM} does not say how many bytes are kept")
     return int(found.group(1)) << int(found.group(2))
 
 
@@ -112,24 +110,25 @@ def report_bound(rows: int, found: Sequence[Stage]) -> None:
     opened, values = held["opened"], held["values"]
     if opened and values:
         taken = (values[0] - opened[0]) / rows
-        print("a row with names and values: %.1f bytes; at most %d MB are kept, some %.1f million"
-              % (taken, most_kept() >> 20, most_kept() / taken / 1e6))
+        print(f"a row with names and values: {taken:.1f} bytes; at most {most_kept() >> 20} MB are "
+              f"kept, some {most_kept() / taken / 1e6:.1f} million")
 
 
 def measure(program: str) -> None:
     with tempfile.TemporaryDirectory() as folder:
         path = os.path.join(folder, "rows.db")
-        rows = int(answer(program, "fill %d %s" % (ELEMENTS, path)))
+        rows = int(answer(program, f"fill {ELEMENTS} {path}"))
         size = sum(os.path.getsize(os.path.join(folder, name)) for name in os.listdir(folder))
-        print("%d rows in a database of %.1f MB, its log counted" % (rows, size / 1e6), flush=True)
-        found = stages(answer(program, "scan %s" % path, counter(folder)))
+        print(f"{rows} rows in a database of {size / 1e6:.1f} MB, its log counted", flush=True)
+        found = stages(answer(program, f"scan {path}", counter(folder)))
         report(rows, found)
         report_bound(rows, found)
 
 
 def main() -> None:
-    with tempfile.TemporaryDirectory() as scratch:
-        measure(bench_program(sys.argv[1] if len(sys.argv) > 1 else scratch, "axes", USES))
+    """Builds and measures."""
+    with folder(__doc__) as room:
+        measure(bench_program(room, "axes", USES))
 
 
 if __name__ == "__main__":

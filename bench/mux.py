@@ -1,7 +1,6 @@
-#!/usr/bin/env python3
 """Measures several servers below `xqs mux` beside one, and refuses what is beyond its bound.
 
-    bench/mux.py [--rows N] [--runs N] [NAME ..] [-- SERVER WORDS]
+    tools/run mux [--rows N] [--runs N] [NAME ..] [-- SERVER WORDS]
 
 NAME is `reads`, `lookups`, `restart` or `stores`; without one all are measured. The server is
 ./serve where none is named. What is compared is measured in turn, one after the other, and the
@@ -22,9 +21,8 @@ import argparse
 import os
 import pathlib
 import signal
-import statistics
-import struct
 import socket
+import statistics
 import subprocess
 import sys
 import tempfile
@@ -33,7 +31,9 @@ import time
 from collections.abc import Callable, Iterator
 from contextlib import contextmanager
 
-TOP = pathlib.Path(__file__).resolve().parent.parent
+from tools.common.repository import TOP
+from xqs.protocol import Kind, frame, store_body
+
 Span = tuple[float, float]
 """When something began and ended, by the clock that all processes share."""
 SERVERS = 3
@@ -59,11 +59,11 @@ class Connection:
 
     def send(self, kind: bytes, body: bytes) -> None:
         """Sends a frame."""
-        self._socket.sendall(struct.pack(">IIc", 5 + len(body), 1, kind) + body)
+        self._socket.sendall(frame(1, Kind(kind), body))
 
     def reply(self) -> bytes:
         """The status and text of the next reply."""
-        return self._take(struct.unpack(">I", self._take(4))[0])[4:]
+        return self._take(int.from_bytes(self._take(4), "big"))[4:]
 
     def _take(self, count: int) -> bytes:
         data = bytearray()
@@ -84,8 +84,7 @@ class Connection:
 
     def store(self, address: str, text: str) -> None:
         """Stores a document."""
-        raw = address.encode()
-        self.ask(b"S", bytes([len(raw)]) + raw + text.encode())
+        self.ask(b"S", store_body(address, text))
 
 
 class Mux:

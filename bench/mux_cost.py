@@ -1,17 +1,15 @@
-#!/usr/bin/env python3
 """Measures what the multiplexer costs: requests a second without it and behind it.
 
-    bench/mux_cost.py [SERVER WORDS]     the server is ./serve where none is named
+    tools/run mux_cost [SERVER WORDS]     the server is ./serve where none is named
 
 Each row is `1`, asked 20,000 times: sent ahead, one after the other, and by 20 clients of which
 each has one request under way. The median of three runs; direct and behind `xqs mux` in turn.
 """
 
+import argparse
 import os
-import pathlib
 import socket
 import statistics
-import struct
 import subprocess
 import sys
 import tempfile
@@ -19,9 +17,12 @@ import threading
 import time
 from collections.abc import Callable
 
-TOP = pathlib.Path(__file__).resolve().parent.parent
+from tools.common import command_line
+from tools.common.repository import TOP
+from xqs.protocol import Kind, frame
+
 COUNT, CLIENTS, RUNS = 20_000, 20, 3
-FRAME = struct.pack(">IIc", 6, 1, b"Q") + b"1"
+FRAME = frame(1, Kind.QUERY, b"1")
 REPLY = 10
 
 
@@ -101,7 +102,9 @@ def multiplexed(command: list[str], work: Callable[[list[Stream]], None], client
 
 def main() -> None:
     """Prints the rows."""
-    command = sys.argv[1:] or [str(TOP / "serve")]
+    words = command_line.parser(__doc__)
+    words.add_argument("server", nargs=argparse.REMAINDER, help="its words (./serve)")
+    command = words.parse_args().server or [str(TOP / "serve")]
     rows: list[tuple[str, list[Callable[[], float]]]] = [
         ("sent ahead", [lambda: direct(command, ahead), lambda: multiplexed(command, ahead, 1)]),
         ("one by one", [lambda: direct(command, in_turn),

@@ -1,8 +1,6 @@
 """Parses long chains, signs and open parentheses; prints times, and how they grow with the length.
 
-usage: parser.py [FOLDER]
-
-Builds bench/parser/main.rattle in the folder, unless an earlier call did.
+    tools/run parser [FOLDER]     builds its program there, unless an earlier call did
 
 A time is the least of five runs, without the lexer, the program's start and its input; the end of
 the expression is in it. The last lines are the least stack, in kilobytes, on which a text nested
@@ -10,16 +8,13 @@ the expression is in it. The last lines are the least stack, in kilobytes, on wh
 predicates, which took most of 323 nests that were tried.
 """
 
-import os
 import resource
 import subprocess
 import sys
-import tempfile
 from collections.abc import Callable
 
-TOP = os.path.join(os.path.dirname(os.path.abspath(__file__)), "..")
-sys.path.insert(0, os.path.join(TOP, "tools"))
-from workspace import bench_program
+from bench.command_line import folder
+from tools.common.workspace import bench_program
 
 USES = ("xq_atoms", "xq_lexer", "xq_expressions", "xq_parser", "sqlite_items")
 CHAINS: tuple[tuple[str, int, str, Callable[[int], str]], ...] = (
@@ -47,7 +42,7 @@ def timed(program: str, text: str, wanted: str) -> tuple[int, int]:
         done = subprocess.run([program], input=text.encode(), stdout=subprocess.PIPE, check=True)
         words = done.stdout.decode().split()
         if words[0] != wanted:
-            sys.exit("%s, not %s" % (words[0], wanted))
+            sys.exit(f"{words[0]}, not {wanted}")
         tokens, time = int(words[1]), max(1, int(words[2]))
         best = time if best is None else min(best, time)
     assert best is not None
@@ -79,22 +74,23 @@ def least_stack(program: str, text: str) -> int:
 
 def measure(program: str) -> None:
     """Prints the times and the stacks."""
-    print("%-14s %10s %10s %10s %8s" % ("text", "tokens", "ends as", "ms", "ratio"))
+    print(f"{'text':<14} {'tokens':>10} {'ends as':>10} {'ms':>10} {'ratio':>8}")
     for name, most, wanted, make in CHAINS:
         before: int | None = None
         for count in (most // 4, most // 2, most):
             tokens, time = timed(program, make(count), wanted)
-            ratio = "%8.2f" % (time / before) if before and before > SHORT else ""
-            print("%-14s %10d %10s %10.2f %8s" % (
-                name, tokens, wanted, time / 1000, ratio), flush=True)
+            ratio = f"{time / before:8.2f}" if before and before > SHORT else ""
+            print(f"{name:<14} {tokens:10d} {wanted:>10} {time / 1000:10.2f} "
+                  f"{ratio:>8}", flush=True)
             before = time
     for name, text in NESTS:
-        print("%-14s %10d KB of stack" % (name, least_stack(program, text)), flush=True)
+        print(f"{name:<14} {least_stack(program, text):10d} KB of stack", flush=True)
 
 
 def main() -> None:
-    with tempfile.TemporaryDirectory() as scratch:
-        measure(bench_program(sys.argv[1] if len(sys.argv) > 1 else scratch, "parser", USES))
+    """Builds and measures."""
+    with folder(__doc__) as room:
+        measure(bench_program(room, "parser", USES))
 
 
 if __name__ == "__main__":

@@ -1,6 +1,6 @@
 """Makes normal forms and plans of queries of up to a megabyte; prints how the times grow.
 
-usage: plan.py [FOLDER]     builds bench/plan/main.rattle there, unless an earlier call did
+    tools/run plan [FOLDER]     builds its program there, unless an earlier call did
 
 A time is the least of fifteen runs, of the normal form and the plan alone; the three lengths of a
 query are run in turn. The queries are steps of one path, operands of one chain, clauses of one
@@ -9,14 +9,11 @@ FLWOR expression, and quantified expressions side by side. The clauses are the b
 binds nests what follows, and nesting goes to 128, so most bindings come after a comma.
 """
 
-import os
 import sys
-import tempfile
 
-TOP = os.path.join(os.path.dirname(os.path.abspath(__file__)), "..")
-sys.path[:0] = [os.path.join(TOP, "tools"), os.path.join(TOP, "bench")]
-from doublings import measure, of_length
-from workspace import bench_program
+from bench.command_line import folder
+from bench.doublings import measure, of_length
+from tools.common.workspace import bench_program
 
 USES = (
     "xq_atoms", "xq_lexer", "xq_expressions", "xq_parser", "xq_trees", "xq_sources",
@@ -32,12 +29,12 @@ def steps(length: int) -> str:
 
 
 def operands(length: int) -> str:
-    return of_length(length, "1", lambda n: " + %d" % (n % 10), "")
+    return of_length(length, "1", lambda n: f" + {n % 10}", "")
 
 
 def new_variables(length: int) -> str:
     return of_length(length, "let $v0 := 1",
-                     lambda n: ", $v%d := ($v%d, $v%d)" % (n + 1, n, n // 2), " return $v0")
+                     lambda n: f", $v{n + 1} := ($v{n}, $v{n // 2})", " return $v0")
 
 
 def one_variable(length: int) -> str:
@@ -67,9 +64,9 @@ QUERIES = (
 
 
 def main() -> int:
-    with tempfile.TemporaryDirectory() as scratch:
-        folder = sys.argv[1] if len(sys.argv) > 1 else scratch
-        return measure(bench_program(folder, "plan", USES), QUERIES, "planned", RUNS)
+    """Builds and measures; status 1 where the times grow too fast."""
+    with folder(__doc__) as room:
+        return measure(bench_program(room, "plan", USES), QUERIES, "planned", RUNS)
 
 
 if __name__ == "__main__":

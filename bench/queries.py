@@ -1,8 +1,7 @@
-#!/usr/bin/env python3
 """Times of queries through the program, over a document of 10,000 and of 100,000 elements.
 
-    bench/queries.py [--server WORDS] [ROUNDS]     7 repetitions where none are named
-    bench/queries.py [--server WORDS] --engines [--base WORDS]
+    tools/run queries [--server WORDS] [ROUNDS]     7 repetitions where none are named
+    tools/run queries [--server WORDS] --engines [--base WORDS]
 
 The document is stored by its constructor, in memory and on a file. For each query: the time of its
 first reply on a fresh server, the median of the repeated ones, and how many times as long ten times
@@ -29,15 +28,23 @@ import tempfile
 from collections.abc import Iterator, Mapping, Sequence
 from dataclasses import dataclass, field, replace
 
-TOP = pathlib.Path(__file__).resolve().parent.parent
-sys.path[:0] = [str(TOP / "tools"), str(TOP / "bench")]
-
-from allocations import of_queries  # noqa: E402
-from bounds import Bound, Times, lesser, ratio, said, table  # noqa: E402
-from engines import (  # noqa: E402
-    DATABASE, NODES, SAXON, TURNS, Command, Engine, Program, Spent, differing, driven, in_turn,
-    warm_up)
-from harness import built  # noqa: E402
+from bench.allocations import of_queries
+from bench.bounds import Bound, Times, lesser, ratio, said, table
+from bench.engines import (
+    DATABASE,
+    NODES,
+    SAXON,
+    TURNS,
+    Command,
+    Engine,
+    Program,
+    Spent,
+    differing,
+    driven,
+    in_turn,
+    warm_up,
+)
+from tools.common.harness import built
 
 OURS, BASE = "xqs", "base"
 
@@ -142,7 +149,8 @@ def show_growth(command: Command, rounds: int) -> None:
             print(f"{where}: stored in {small:.0f} and {large:.0f} ms, "
                   f"{large / small:.1f} times as long")
             print(f"{'milliseconds':20} {'10,000':>15} {'100,000':>17} {'growth':>7}")
-            for (name, _), (first, again), (slow, repeated) in zip(QUERIES, few, many):
+            for (name, _), (first, again), (slow, repeated) in zip(
+                    QUERIES, few, many, strict=True):
                 print(f"{name:20} {first:7.1f} {again:7.1f} {slow:9.1f} {repeated:7.1f}"
                       f" {repeated / again:7.1f}", flush=True)
 

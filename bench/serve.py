@@ -1,23 +1,20 @@
-#!/usr/bin/env python3
 """Frames per second over a pipe, in memory and on a file; and how long a file of 100,000 rows takes
 to open.
 
-    bench/serve.py [SECONDS]      2 seconds for each figure where none are named
+    tools/run serve [SECONDS]      2 seconds for each figure where none are named
 
 `L` lists one address, `doc("b")` reads a document of 8 nodes, and `S` stores that document, which
 each time replaces it. One at a time: each frame after the reply to the one before; 64 in flight: so
 many frames, and then their replies.
 """
 import os
-import pathlib
 import sys
 import tempfile
 import time
 from collections.abc import Sequence
 
-TOP = pathlib.Path(__file__).resolve().parent.parent
-sys.path.insert(0, str(TOP / "tools"))
-from harness import LIBRARY, Server, built, frame, store
+from tools.common import command_line
+from tools.common.harness import LIBRARY, Server, built, frame, store
 
 REQUESTS = [("L", b"L", b""), ('doc("b")', b"Q", b'doc("b")'), ("S", b"S", store(b"b", LIBRARY))]
 ROWS = 50_000
@@ -68,17 +65,20 @@ def opening(path: str) -> float:
 
 
 def main() -> None:
-    seconds = float(sys.argv[1]) if len(sys.argv) > 1 else 2.0
+    """Measures the program that ./serve built."""
+    words = command_line.parser(__doc__)
+    words.add_argument("seconds", nargs="?", type=float, default=2.0, help="for each figure")
+    seconds = words.parse_args().seconds
     print(f"{'':10} {'request':10} {'one at a time':>14} {'64 in flight':>14}   frames per second")
     rates("memory", [], seconds)
     with tempfile.TemporaryDirectory() as folder:
         rates("file", ["--file", f"{folder}/x.db"], seconds)
-        print("a file without rows opens in %.0f ms" % opening(f"{folder}/empty.db"))
+        print(f"a file without rows opens in {opening(f'{folder}/empty.db'):.0f} ms")
         server = Server([built(), "--file", f"{folder}/large.db"])
         for address in (b"a", b"b"):
             server.ask(b"S", store(address, large_document()))
         server.end()
-        print("a file of %d rows opens in %.0f ms" % (2 * ROWS, opening(f"{folder}/large.db")))
+        print(f"a file of {2 * ROWS} rows opens in {opening(f'{folder}/large.db'):.0f} ms")
 
 
 if __name__ == "__main__":

@@ -1,7 +1,6 @@
-#!/usr/bin/env python3
 """How much stack nested queries and plans take, as LLVM builds the program.
 
-    bench/stack.py [FOLDER]    builds bench/stack/main.rattle there, unless an earlier call did
+    tools/run stack [FOLDER]     builds its program there, unless an earlier call did
 
 First plans, made without a text, so that their evaluation alone takes stack: for each form the
 bytes of one level, from plans of 128 and of 1,024 levels, and the kilobytes of 128. Then queries,
@@ -9,15 +8,12 @@ nested as deep as a query may be: how many times each form was repeated, and the
 the query is read, and on which it is read and evaluated. The form of all operators has most levels
 of a plan in one level of the query. The last lines are the worst.
 """
-import os
 import resource
 import subprocess
 import sys
-import tempfile
 
-TOP = os.path.join(os.path.dirname(os.path.abspath(__file__)), "..")
-sys.path.insert(0, os.path.join(TOP, "tools"))
-from workspace import bench_program
+from bench.command_line import folder
+from tools.common.workspace import bench_program
 
 USES = (
     "xq_atoms", "xq_eval", "xq_expressions", "xq_meaning", "xq_queries", "xq_trees",
@@ -82,7 +78,7 @@ def least_stack(program: str, given: str) -> int:
     while not outcome(program, given, high * STEP):
         low, high = high, high * 2
         if high * STEP > MOST:
-            sys.exit("over %d KB of stack: %s" % (MOST, given[:60]))
+            sys.exit(f"over {MOST} KB of stack: {given[:60]}")
     while high - low > 1:
         middle = (low + high) // 2
         if outcome(program, given, middle * STEP):
@@ -94,14 +90,14 @@ def least_stack(program: str, given: str) -> int:
 
 def of_plans(program: str) -> tuple[int, str]:
     """Prints a line for each form of plan; gives the most bytes of a level, and its form."""
-    print("%-24s %10s %10s" % ("plan", "a level", "128 levels"))
+    print(f"{'plan':<24} {'a level':>10} {'128 levels':>10}")
     worst = (0, "")
     for form in PLANS:
-        given = ["plan %s %d\n" % (form, depth) for depth in (NESTING, DEEPER)]
+        given = [f"plan {form} {depth}\n" for depth in (NESTING, DEEPER)]
         few, many = (least_stack(program, each) for each in given)
         level = (many - few) * 1024 // (DEEPER - NESTING)
         worst = max(worst, (level, form))
-        print("%-24s %8d B %7d KB" % (form, level, few), flush=True)
+        print(f"{form:<24} {level:8d} B {few:7d} KB", flush=True)
     return worst
 
 
@@ -117,27 +113,28 @@ def deepest(program: str, before: str, middle: str, after: str) -> tuple[int, st
 
 def of_queries(program: str) -> tuple[int, str]:
     """Prints a line for each form of query; gives the most kilobytes, and its form."""
-    print("%-24s %6s %10s %14s   %s" % ("query", "times", "read", "and evaluated", "ends as"))
+    print(f"{'query':<24} {'times':>6} {'read':>10} {'and evaluated':>14}   {'ends as'}")
     worst = (0, "")
     for name, before, middle, after in QUERIES:
         count, query, ends = deepest(program, before, middle, after)
         if ends != "value":
-            sys.exit("%s: %s" % (name, ends))
+            sys.exit(f"{name}: {ends}")
         given = [word + "\n" + query for word in ("read", "ask")]
         read, asked = (least_stack(program, each) for each in given)
         worst = max(worst, (asked, name))
         told = outcome(program, given[1], MOST)
-        print("%-24s %6d %7d KB %11d KB   %s" % (name, count, read, asked, told), flush=True)
+        print(f"{name:<24} {count:6d} {read:7d} KB {asked:11d} KB   {told}", flush=True)
     return worst
 
 
 def main() -> None:
-    with tempfile.TemporaryDirectory() as scratch:
-        program = bench_program(sys.argv[1] if len(sys.argv) > 1 else scratch, "stack", USES)
+    """Builds and measures."""
+    with folder(__doc__) as room:
+        program = bench_program(room, "stack", USES)
         level, form = of_plans(program)
         most, name = of_queries(program)
-    print("the most of one level of a plan: %d bytes, %s" % (level, form))
-    print("the most of a query: %d KB, %s" % (most, name))
+    print(f"the most of one level of a plan: {level} bytes, {form}")
+    print(f"the most of a query: {most} KB, {name}")
 
 
 if __name__ == "__main__":

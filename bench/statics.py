@@ -1,6 +1,6 @@
 """Checks queries of up to a megabyte; prints times, and how they grow with the length.
 
-usage: statics.py [FOLDER]     builds bench/statics/main.rattle there, unless an earlier call did
+    tools/run statics [FOLDER]     builds its program there, unless an earlier call did
 
 A time is the least of 75 runs, of the checks alone, and begins with empty caches; the three lengths
 of a query are run in turn. The queries are bindings and uses of ever new variables, of one variable
@@ -8,14 +8,11 @@ that is bound again and again, of calls, and one FLWOR expression of up to 20,00
 kinds.
 """
 
-import os
 import sys
-import tempfile
 
-TOP = os.path.join(os.path.dirname(os.path.abspath(__file__)), "..")
-sys.path[:0] = [os.path.join(TOP, "tools"), os.path.join(TOP, "bench")]
-from doublings import measure, of_length
-from workspace import bench_program
+from bench.command_line import folder
+from bench.doublings import measure, of_length
+from tools.common.workspace import bench_program
 
 USES = ("xq_atoms", "xq_lexer", "xq_expressions", "xq_parser", "xq_statics", "sqlite_items")
 MEGABYTE = 1_000_000
@@ -24,7 +21,7 @@ RUNS = 75
 
 def new_variables(length: int) -> str:
     return of_length(length, "let $v0 := 1",
-                     lambda n: ", $v%d := ($v%d, $v%d)" % (n + 1, n, n // 2), " return $v0")
+                     lambda n: f", $v{n + 1} := ($v{n}, $v{n // 2})", " return $v0")
 
 
 def one_variable(length: int) -> str:
@@ -62,9 +59,9 @@ QUERIES = (
 
 
 def main() -> int:
-    with tempfile.TemporaryDirectory() as scratch:
-        folder = sys.argv[1] if len(sys.argv) > 1 else scratch
-        return measure(bench_program(folder, "statics", USES), QUERIES, "passed", RUNS)
+    """Builds and measures; status 1 where the times grow too fast."""
+    with folder(__doc__) as room:
+        return measure(bench_program(room, "statics", USES), QUERIES, "passed", RUNS)
 
 
 if __name__ == "__main__":

@@ -8,13 +8,16 @@ Each time is the median of some runs, ours and C's in turn, more of them where t
 It is given as a multiple of C SQLite's in memory, and for a file also of C SQLite's in a file.
 COUNTER is held.c's library, which counts what the process has allocated and not freed.
 """
+
+import argparse
+import itertools
 import os
+import pathlib
 import statistics
 import subprocess
-import sys
 from collections.abc import Mapping
 
-HERE = os.path.dirname(os.path.abspath(__file__))
+C_SQLITE = str(pathlib.Path(__file__).resolve().with_name("csqlite.py"))
 RUNS = {1_000: 31, 10_000: 11, 100_000: 3}
 ROWS = tuple(RUNS)
 SINGLE = 100
@@ -24,8 +27,6 @@ GROWTH = 14
 HELD = 3
 LIMITED = ("put", "replaces")
 PAGE = os.sysconf("SC_PAGE_SIZE")
-what, program, folder = sys.argv[1:4]
-counter = sys.argv[4] if len(sys.argv) > 4 else None
 
 
 def lines_of(*words: str, **environment: str) -> list[list[str]]:
@@ -35,33 +36,33 @@ def lines_of(*words: str, **environment: str) -> list[list[str]]:
     return [line.split() for line in done.stdout.splitlines()]
 
 
-def run_once(times: dict[str, list[int]], *words: str) -> None:
+def run_once(times: dict[str, list[int]], folder: pathlib.Path, *words: str) -> None:
     """Adds the microseconds of each call of one run, in new files."""
-    for name in os.listdir(folder):
-        if ".db" in name:
-            os.remove(os.path.join(folder, name))
+    for path in folder.glob("*.db*"):
+        path.unlink()
     for name, time in lines_of(*words):
         times.setdefault(name, []).append(max(int(time), 1))
 
 
-def times_of(rows: int) -> dict[tuple[str, str], dict[str, float]]:
+def times_of(program: str, folder: pathlib.Path,
+             rows: int) -> dict[tuple[str, str], dict[str, float]]:
     """Microseconds of each call, the median of some runs: C's in memory and in a file, and ours on
     both kinds."""
-    words = {("c", "memory"): ("python3", os.path.join(HERE, "csqlite.py"), str(rows), ":memory:"),
-             ("c", "file"): ("python3", os.path.join(HERE, "csqlite.py"), str(rows),
-                             os.path.join(folder, "c.db")),
+    words = {("c", "memory"): ("python3", C_SQLITE, str(rows), ":memory:"),
+             ("c", "file"): ("python3", C_SQLITE, str(rows), str(folder / "c.db")),
              ("ours", "disks"): (program, "disks", str(rows), ""),
-             ("ours", "file"): (program, "file", str(rows), os.path.join(folder, "ours.db"))}
+             ("ours", "file"): (program, "file", str(rows), str(folder / "ours.db"))}
     times: dict[tuple[str, str], dict[str, list[int]]] = {key: {} for key in words}
     for _ in range(RUNS[rows]):
         for key, these in words.items():
-            run_once(times[key], *these)
+            run_once(times[key], folder, *these)
     return {key: {name: statistics.median(all_of) for name, all_of in these.items()}
             for key, these in times.items()}
 
 
 def report(kind: str, rows: int, ours: Mapping[str, float], theirs: Mapping[str, float],
            there: str) -> None:
+    """Prints a line: ours as a multiple of C SQLite's there."""
     ratios = {name: ours[name] / theirs[name] for name in CALLS}
     beyond = [name for name, limit in LIMITS.items()
               if there == "memory" and kind == "disks" and ratios[name] > limit]
@@ -70,10 +71,21 @@ def report(kind: str, rows: int, ours: Mapping[str, float], theirs: Mapping[str,
           + (f"   BEYOND THE LIMIT: {', '.join(beyond)}" if beyond else ""))
 
 
-def compare() -> None:
+def show_growth(times: Mapping[tuple[str, int], Mapping[str, float]]) -> None:
+    """Prints how replaces and drops grow with the rows."""
+    for kind in ("disks", "file"):
+        for name in ("replace", "drop"):
+            for few, many in itertools.pairwise(ROWS):
+                growth = times[kind, many][name] / times[kind, few][name]
+                print(f"{kind:6} {name} from {few} to {many} rows: {growth:.1f} times"
+                      + (f"   BEYOND THE LIMIT {GROWTH}" if growth > GROWTH else ""))
+
+
+def compare(program: str, folder: pathlib.Path) -> None:
+    """Prints the times, and how they grow."""
     times: dict[tuple[str, int], dict[str, float]] = {}
     for rows in ROWS:
-        found = times_of(rows)
+        found = times_of(program, folder, rows)
         for kind, others in (("disks", ("memory",)), ("file", ("memory", "file"))):
             ours = times[kind, rows] = found["ours", kind]
             for there in others:
@@ -82,33 +94,30 @@ def compare() -> None:
                 f"{name} {ours[name] / (SINGLE if name == 'single' else 1) / 1000:.2f} ms"
                 for name in CALLS)
                 + f"   first write after the put {ours['first'] / 1000:.2f} ms")
-    for kind in ("disks", "file"):
-        for name in ("replace", "drop"):
-            for few, many in zip(ROWS, ROWS[1:]):
-                growth = times[kind, many][name] / times[kind, few][name]
-                print(f"{kind:6} {name} from {few} to {many} rows: {growth:.1f} times"
-                      + (f"   BEYOND THE LIMIT {GROWTH}" if growth > GROWTH else ""))
+    show_growth(times)
 
 
-def resident() -> dict[str, int]:
+def resident(program: str) -> dict[str, int]:
     """The bytes that the process has resident, by the name of the moment."""
     lines = lines_of(program, "held", str(ROWS[-1]), "")
     return {words[0]: int(words[2]) * PAGE for words in lines}
 
 
-def allocated() -> dict[str, tuple[int, int]]:
+def allocated(program: str, counter: str) -> dict[str, tuple[int, int]]:
     """The bytes allocated and not freed, and those in blocks of 64 KiB, by the moment's name."""
-    lines = lines_of(program, "held", str(ROWS[-1]), "", LD_PRELOAD=counter or "")
+    lines = lines_of(program, "held", str(ROWS[-1]), "", LD_PRELOAD=counter)
     return {words[6]: (int(words[1]), int(words[5])) for words in lines}
 
 
-def memory() -> None:
-    """The database is the one that the last run in a file left, without its log; it never gets
+def memory(program: str, folder: pathlib.Path, counter: str | None) -> None:
+    """Prints what a store holds.
+
+    The database is the one that the last run in a file left, without its log; it never gets
     shorter."""
-    size = os.path.getsize(os.path.join(folder, "ours.db"))
+    size = (folder / "ours.db").stat().st_size
     print(f"memory {ROWS[-1]} rows: the database has {size / 1e6:.1f} MB")
-    found = resident()
-    counted = allocated() if counter else {}
+    found = resident(program)
+    counted = allocated(program, counter) if counter else {}
     for name in ("small", "put", "replaces", "load"):
         words = []
         if counter:
@@ -123,4 +132,20 @@ def memory() -> None:
         print(f"memory after {name}, above what was there before the store: " + "; ".join(words))
 
 
-{"times": compare, "memory": memory}[what]()
+def main() -> None:
+    """Measures what is named."""
+    words = argparse.ArgumentParser(
+        description=__doc__, formatter_class=argparse.RawDescriptionHelpFormatter)
+    words.add_argument("what", choices=("times", "memory"))
+    words.add_argument("program")
+    words.add_argument("folder", type=pathlib.Path)
+    words.add_argument("counter", nargs="?")
+    given = words.parse_args()
+    if given.what == "times":
+        compare(given.program, given.folder)
+    else:
+        memory(given.program, given.folder, given.counter)
+
+
+if __name__ == "__main__":
+    main()

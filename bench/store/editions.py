@@ -10,6 +10,8 @@ median of some runs. Of 1,000,000 rows: a put, the opening of a file of edition 
 over, and the openings after and before that, with the most memory that each took. FOLDER has room
 for the files (a new one is taken).
 """
+
+import argparse
 import os
 import shutil
 import statistics
@@ -75,10 +77,10 @@ def of_names(programs: Sequence[str], folder: str, names: int) -> None:
     paths = [os.path.join(folder, name) for name in ("old.db", "new.db")]
     times: Times = {}
     for _ in range(RUNS):
-        for which, (program, path) in enumerate(zip(programs, paths)):
+        for which, (program, path) in enumerate(zip(programs, paths, strict=True)):
             found = run(program, "named", ROWS, absent(path), names)
             add(times, found, {"put": ("put", which), "load": ("load", which)})
-        for which, (path, text) in enumerate(zip(paths, (OLD_RANGE, NEW_RANGE))):
+        for which, (path, text) in enumerate(zip(paths, (OLD_RANGE, NEW_RANGE), strict=True)):
             found = run(new, "query", 0, path, text)
             assert found["rows"] == ROWS, found
             add(times, found, {"query": ("range", which)})
@@ -116,10 +118,15 @@ def carried_over(programs: Sequence[str], folder: str) -> None:
 
 
 def main() -> None:
-    if len(sys.argv) not in (3, 4):
-        sys.exit(__doc__)
-    programs = sys.argv[1:3]
-    with tempfile.TemporaryDirectory(dir=sys.argv[3] if len(sys.argv) == 4 else None) as folder:
+    """Measures, and prints what was found."""
+    words = argparse.ArgumentParser(
+        description=__doc__, formatter_class=argparse.RawDescriptionHelpFormatter)
+    words.add_argument("old")
+    words.add_argument("new")
+    words.add_argument("folder", nargs="?")
+    given = words.parse_args()
+    programs = [given.old, given.new]
+    with tempfile.TemporaryDirectory(dir=given.folder) as folder:
         for names in NAMES:
             of_names(programs, folder, names)
         carried_over(programs, folder)

@@ -4,11 +4,8 @@ command."""
 
 import subprocess
 import sys
-from pathlib import Path
 
-sys.path.insert(0, str(Path(__file__).resolve().parents[1]))
-
-from tests.planted_server import read_message, write_message  # noqa: E402
+from tests.planted_server import read_message, write_message
 
 
 def main() -> int:

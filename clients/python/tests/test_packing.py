@@ -14,7 +14,6 @@ from xqs.stores import store_constructors, store_xml
 from xqs.temporary import Temporary
 from xqs.values import events
 
-
 SMALL = mock.patch.multiple(packing, DEEPEST=2, LONGEST=120, SHORT=60, MOST_NODES=3)
 """A context in which texts have little room."""
 

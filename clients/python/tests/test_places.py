@@ -4,7 +4,6 @@ import os
 import random
 import re
 import subprocess
-import sys
 import time
 import unittest
 
@@ -153,8 +152,8 @@ def mutated(chosen: random.Random, text: str) -> str:
 class Tables(unittest.TestCase):
     @unittest.skipUnless((TOP / "crates").exists(), "a release has no definitions of the server")
     def test_the_client_has_the_tables_of_the_server(self) -> None:
-        script = TOP / "tools" / "client_tables.py"
-        found = subprocess.run([sys.executable, script, "--check"], capture_output=True, text=True)
+        words = [str(TOP / "tools" / "run"), "client_tables", "--check"]
+        found = subprocess.run(words, capture_output=True, text=True)
         self.assertEqual(found.returncode, 0, found.stderr)
 
     def test_texts_that_go_on(self) -> None:

@@ -6,8 +6,8 @@ from xml.sax.saxutils import escape, quoteattr
 from tests.support import ServerTest, store_part
 from tests.test_xml import FLAT, canonical, document_text
 from xqs import Node, NodeKind, literal, q, values
-from xqs.parts import DocumentText
 from xqs.incoming import constructor_parts
+from xqs.parts import DocumentText
 from xqs.stores import store_constructors, store_xml
 from xqs.temporary import Temporary
 from xqs.values import events

@@ -26,8 +26,14 @@ PORT = "8984"
 """The port in the pages; the tests use another one."""
 LIBRARY = ('<lib><book id="1"><title>Ink</title></book>'
            '<book id="2"><title>Paper</title></book></lib>')
-ANYTHING = re.compile(r"\d+ bytes|\d+\.\d+ MB in \d+\.\d+ s|\(lines? \d+\)|\.\.")
+ANYTHING = re.compile(r"\d+ bytes|\d+\.\d+ MB in \d+\.\d+ s|\(lines? \d+\)|process \d+"
+                      r"|/\S+/x\.db\.sock|/\S+/serve-[0-9a-f]+\.log|\.\.")
 """What differs each time."""
+
+
+MARKS = ("dc:title", "conut", "'1+'", "--in books", "xqs shell", "--seconds 2", "xqs load records",
+         "xqs backup", "curl -T books.xml", "grep ETag", "xqs serve x.db", "query 1 --file x.db")
+"""What tells the sessions of docs/CLIENTS.md that are run, the last in test_page_lines.py."""
 
 
 @dataclass(frozen=True)
@@ -129,7 +135,8 @@ class Readme(Sessions):
         steps = [it for some in sessions((TOP / "README.md").read_text()) for it in some]
         self.assertGreater(len(steps), 7)
         for step in steps:
-            if not step.command.startswith("export "):
+            is_here = "xxd" not in step.command or shutil.which("xxd")
+            if is_here and not step.command.startswith("export "):
                 self.check(step)
 
 
@@ -171,6 +178,11 @@ class Clients(Sessions):
         self.store("books/a.xml", LIBRARY)
         for mark in ("conut", "'1+'", "--in books", "xqs shell"):
             self.go_through(mark)
+
+    def test_a_file_in_the_background(self) -> None:
+        for address in ("a", "b"):
+            self.store(address, "<a/>")
+        self.go_through("xqs serve x.db")
 
     def test_a_request_that_is_too_long(self) -> None:
         self.go_through("--seconds 2")

@@ -20,7 +20,6 @@ from xqs.session import Session, completions
 from xqs.shell import word_before
 from xqs.shell_texts import is_whole
 
-
 INTERRUPT = "\x03"
 END = b"\x04"
 ENDLESS = "every $x in 1 to 1000000, $y in 1 to 1000000 satisfies $x > 0\r"

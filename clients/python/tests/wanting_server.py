@@ -3,11 +3,8 @@ text has the word `good`; it ends at the word `end`."""
 
 import os
 import sys
-from pathlib import Path
 
-sys.path.insert(0, str(Path(__file__).resolve().parents[1] / "src"))
-
-from xqs.protocol import MAX_REQUEST, Splitter, Status, reply, tag_of  # noqa: E402
+from xqs.protocol import MAX_REQUEST, Splitter, Status, reply, tag_of
 
 
 def answer(message: bytes) -> bytes:

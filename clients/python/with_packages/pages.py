@@ -7,8 +7,6 @@ import urllib.parse
 from pathlib import Path
 from typing import Any
 
-import tests  # noqa: F401 (puts the package on the path)
-
 try:
     import devtools as devtools
     import running

@@ -21,8 +21,6 @@ from contextlib import suppress
 from pathlib import Path
 from typing import Any, TypeAlias, cast
 
-import tests  # noqa: F401 (puts the package on the path)
-
 try:
     import aio_pika
 except ImportError as error:

@@ -7,8 +7,6 @@ from contextlib import aclosing, asynccontextmanager
 from typing import Any
 from unittest import mock
 
-import tests  # noqa: F401 (puts the package on the path)
-
 try:
     import aio_pika  # noqa: F401
 except ImportError as error:

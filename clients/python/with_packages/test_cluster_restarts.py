@@ -13,8 +13,6 @@ import time
 import unittest
 from pathlib import Path
 
-import tests  # noqa: F401 (puts the package on the path)
-
 try:
     import aio_pika  # noqa: F401
 except ImportError as error:

@@ -9,15 +9,12 @@ import os
 import random
 import shutil
 import signal
-import sys
 import tempfile
 import time
 import unittest
 from collections.abc import Awaitable, Callable, Iterator
 from contextlib import suppress
 from pathlib import Path
-
-import tests  # noqa: F401 (puts the package on the path)
 
 try:
     import aio_pika  # noqa: F401
@@ -28,14 +25,12 @@ from brokers import missing as missing_brokers
 from clusters import SHARED, RunningNode, Watcher, Writer, all_taken, follows_again
 from machines import Machines
 from machines import missing as missing_machines
+from run_cluster_page import blocks, carry, own
 from tests.histories import History, faults
 from tests.support import TOP, server_command
 from xqs import aio
 from xqs.cluster.snapshots import judge
 from xqs.errors import Refused, Unknown, Wanting, XqError
-
-sys.path.insert(0, str(TOP / "tools"))
-from run_cluster_page import blocks, carry, own  # noqa: E402
 
 SECONDS = float(os.environ.get("XQS_TORTURE_SECONDS", "120"))
 SEED = int(os.environ.get("XQS_SEED", "85"))

@@ -1,6 +1,6 @@
 """The page of `xqs web` in headless Chromium: queries, refusals, the keyboard, hostile texts.
 
-    cd clients/python && python3 -m unittest discover -s with_packages
+    tools/run run_tests clients/python test_page
 
 `XQS_PICTURES` names a folder for pictures of the page, if they are wanted.
 """

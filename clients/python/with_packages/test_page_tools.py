@@ -11,7 +11,6 @@ from pathlib import Path
 from pages import HAS_EDITOR, PageTest, devtools
 from running import TOKEN
 from tests.serving import RunningMux
-
 from xqs import connect
 
 LETTERS = 1_300

@@ -9,7 +9,6 @@ import unittest
 
 from pages import PageTest
 from tests.serving import RunningMux
-
 from xqs import Client, Node, connect
 from xqs.values import Item, NodeKind
 from xqs.xml_out import atom_text, xml

@@ -7,7 +7,6 @@ import unittest
 
 from tests.serving import RunningMux
 from webs import BOOK, XQUERY, Answer, RunningWeb, WebTest, asked
-
 from xqs import connect
 
 XML, JSON, TEXT = "application/xml", "application/json", "text/plain"

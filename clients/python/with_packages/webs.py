@@ -6,7 +6,6 @@ import unittest
 import urllib.parse
 from contextlib import suppress
 
-import tests  # noqa: F401 (puts the package on the path)
 from tests.support import FolderTest
 
 try:

@@ -1,6 +1,6 @@
 //! Tests of the server where a fault has to be put in: services by scripted readers and writers,
 //! and stops of the disk. What a request reaches without one runs through the program
-//! (tools/test_rows.py).
+//! (tools/tests/test_rows.py).
 #![tactic(auto)]
 
 #[cfg(test)]

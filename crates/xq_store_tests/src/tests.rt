@@ -14,8 +14,8 @@ fn comes_through<S: Alter + Drop>(alloc: Global, store: Store<S>) -> bool {
     matches!(fate_of_calls(alloc, &mut store), Fate::Up)
 }
 
-/// Run as it stands no allocation is refused; tools/each_allocation.sh runs it once for each of
-/// its allocations, refusing that one.
+/// Run as it stands no allocation is refused; tools/trials/each_allocation.sh runs it once for each
+/// of its allocations, refusing that one.
 #[test]
 fn each_allocation_in_memory(rt: HostRuntime) -> Result<(), Want> {
     let alloc = rt.alloc();

@@ -1,5 +1,5 @@
-"""What the client knows of the language. tools/client_tables.py writes this from the
-server's own tables, and a test compares them: change nothing here by hand.
+"""What the client knows of the language: `tools/run client_tables --write` makes it
+from the server's own tables, and a test compares them. Change nothing here by hand.
 """
 
 FUNCTIONS: dict[str, tuple[int, int | None]] = {

@@ -8,9 +8,9 @@ from typing import TYPE_CHECKING
 from xqs.bounds import shown_size
 from xqs.mux_backend import ServerEnded
 from xqs.mux_clients import Settings
+from xqs.mux_peer import WANTING_STORE
 from xqs.protocol import Kind
 from xqs.replica import HOLDING, Replica, State
-from xqs.mux_peer import WANTING_STORE
 from xqs.replicas import NO_ROOM, STOPPED
 from xqs.waiting import cancelled
 from xqs.watching import Stopped, is_large, resident

@@ -19,10 +19,10 @@ from xqs.bounds import bounds_of
 from xqs.cli import connection_options, server_of
 from xqs.endpoints import Command, Endpoint, UnixSocket
 from xqs.multiplexer import Multiplexer, is_on_file
+from xqs.mux import add_limits, duration, positive, settings_of, split_command, until_signal
 from xqs.mux_clients import Settings
 from xqs.mux_control import actions_of
 from xqs.mux_many import ManyServers
-from xqs.mux import add_limits, duration, positive, settings_of, split_command, until_signal
 from xqs.served import asked_at
 from xqs.web_connections import Connections
 from xqs.web_guard import NAMES, ORIGIN, read_token

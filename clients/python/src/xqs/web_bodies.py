@@ -21,7 +21,7 @@ def media_type(request: web.Request, others: tuple[str, ...] = ()) -> str:
 
     Raises HttpRefusal 415 for a type that is not in `others` either, and for a compressed body.
     """
-    kind = request.content_type if "Content-Type" in request.headers else XML
+    kind: str = request.content_type if "Content-Type" in request.headers else XML
     coding = request.headers.get("Content-Encoding", "identity")
     if coding.lower() != "identity":
         raise HttpRefusal(415, "xqs:TYPE", f"a body is sent as it is, not as {coding}")

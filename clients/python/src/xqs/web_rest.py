@@ -378,7 +378,7 @@ def parameters_of(request: web.Request) -> Parameters:
 
 def address_of(request: web.Request) -> str:
     """The address in the path of a request. Raises HttpRefusal if it is invalid."""
-    address = request.match_info["address"]
+    address: str = request.match_info["address"]
     try:
         protocol.address_bytes(address)
     except ValueError as error:

@@ -12,7 +12,15 @@ from aio_pika.exceptions import ChannelNotFoundEntity
 
 from xqs.cluster.addresses import LogAddress, shown
 from xqs.cluster.amqp_link import (
-    FAREWELL, NO_STREAM, OFFSET, PATIENCE, Link, NoCopy, Words, farewell, told_as_away,
+    FAREWELL,
+    NO_STREAM,
+    OFFSET,
+    PATIENCE,
+    Link,
+    NoCopy,
+    Words,
+    farewell,
+    told_as_away,
 )
 from xqs.cluster.batches import probe
 from xqs.cluster.limits import within
@@ -147,7 +155,8 @@ class AmqpLog:
         channel.close_callbacks.add(lambda *_: inbox.put_nowait(None))
         await channel.set_qos(prefetch_count=prefetch)
         queue = await channel.get_queue(self.name)
-        return await queue.consume(inbox.put, arguments={OFFSET: begin})
+        tag: str = await queue.consume(inbox.put, arguments={OFFSET: begin})
+        return tag
 
     async def _end_inbox(self, inbox: Inbox, channel: AbstractChannel, tag: str) -> None:
         """Ends the messages if the connection is given up, or if the broker has cancelled them."""

@@ -112,9 +112,10 @@ class Link:
         self.lost.clear()
         try:
             with told_as_away():
-                self._connection = await within(2 * PATIENCE, _connected(broker))
-                self._connection.close_callbacks.add(self.on_close)
-                await within(2 * PATIENCE, _of(self._opened(self._connection)))
+                connection = await within(2 * PATIENCE, _connected(broker))
+                self._connection = connection
+                connection.close_callbacks.add(self.on_close)
+                await within(2 * PATIENCE, _of(self._opened(connection)))
             if self.lost.is_set():
                 raise Away(self._why)
         except BaseException:

@@ -16,8 +16,8 @@ from xqs.cluster.feed import Feed, digest_of
 from xqs.cluster.identity import PATIENCE
 from xqs.cluster.limits import within
 from xqs.cluster.log import Away, CannotFollow, Log
-from xqs.cluster.outbox import Outbox
 from xqs.cluster.names import Names
+from xqs.cluster.outbox import Outbox
 from xqs.cluster.serving import Entry, with_client
 from xqs.cluster.snapshots import Snapshot
 from xqs.cluster.state import State

@@ -1,0 +1,1 @@
+"""Tests of what judges bounds and writes figures."""

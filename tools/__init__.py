@@ -1,0 +1,1 @@
+"""Scripts beside the program: README.md lists them by who uses them."""

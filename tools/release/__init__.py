@@ -1,0 +1,1 @@
+"""Archives and packages of the program."""

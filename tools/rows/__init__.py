@@ -1,0 +1,1 @@
+"""Tables of requests with their replies, and what reads and sends them."""

@@ -1,0 +1,1 @@
+"""Tests of the scripts, and of the program by tables of requests."""

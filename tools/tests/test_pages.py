@@ -1,0 +1,84 @@
+"""The pages' links lead somewhere, and the files and commands that they name are there."""
+
+import pathlib
+import re
+import shutil
+import subprocess
+import unittest
+from collections.abc import Iterator
+
+from tools.common.repository import TOP
+from tools.tests.test_scripts import modules
+
+PAGES = (*sorted(TOP.glob("*.md")), *sorted(TOP.glob("docs/*.md")),
+         *sorted(TOP.glob("clients/*/*.md")), TOP / "tools" / "README.md")
+PAST = ("CHANGELOG.md",)
+"""Pages that speak of files that are gone."""
+LINK = re.compile(r"\[[^\]]*\]\(([^)\s]+)\)")
+FILE = re.compile(r"(?<![\w./-])((?:tools|bench|clients|docs|crates)/[\w./-]*\w)")
+SCRIPT = re.compile(r"\btools/run\s+(\w+)")
+SAMPLES = re.compile(r"```.*?```", re.DOTALL)
+
+
+def anchors(page: str) -> set[str]:
+    """The anchors that GitHub gives the headings of a page."""
+    headings = re.findall(r"^#+ (.+)$", SAMPLES.sub("", page), re.MULTILINE)
+    kept = (re.sub(r"[^\w\- ]", "", it.lower()) for it in headings)
+    return {it.replace(" ", "-") for it in kept}
+
+
+def broken_links(file: pathlib.Path) -> Iterator[str]:
+    """The links of a page that lead nowhere in the repository."""
+    for link in LINK.findall(SAMPLES.sub("", file.read_text())):
+        place, _, anchor = link.partition("#")
+        if "://" in place:
+            continue
+        target = (file.parent / place).resolve() if place else file
+        if not target.exists():
+            yield f"{file.name}: {link}: there is no such file"
+        elif anchor and target.suffix == ".md" and anchor not in anchors(target.read_text()):
+            yield f"{file.name}: {link}: there is no such heading"
+
+
+class Pages(unittest.TestCase):
+    def test_links_lead_somewhere(self) -> None:
+        self.assertEqual([it for file in PAGES for it in broken_links(file)], [])
+
+    def test_files_that_are_named_are_there(self) -> None:
+        absent = [f"{file.name}: {name}" for file in PAGES if file.name not in PAST
+                  for name in FILE.findall(file.read_text())
+                  if "NAME" not in name and not any(TOP.glob(f"{name}*"))]
+        self.assertEqual(absent, [])
+
+    def test_scripts_that_are_named_are_there(self) -> None:
+        known = {it.stem for it in modules()} | {"NAME"}
+        named = {it for file in PAGES for it in SCRIPT.findall(file.read_text())}
+        self.assertGreater(len(named), 20)
+        self.assertEqual(named - known, set())
+
+    def test_commands_that_are_named_are_there(self) -> None:
+        known = set(re.findall(r'^    "(\w+)": Entry', (
+            TOP / "clients" / "python" / "src" / "xqs" / "cli.py").read_text(), re.MULTILINE))
+        named = {it for file in PAGES if file.name not in PAST
+                 for it in re.findall(r"`(?:\./)?xqs ([a-z]+)\b", file.read_text())}
+        self.assertGreater(len(known), 10)
+        self.assertEqual(named - known, set())
+
+    @unittest.skipUnless(shutil.which("git") and (TOP / ".git").exists(), "it wants a clone")
+    def test_commits_that_are_named_are_there(self) -> None:
+        page = (TOP / "docs" / "ARCHITECTURE.md").read_text()
+        for commit in re.findall(r"\b[0-9a-f]{8}\b", page):
+            found = subprocess.run(["git", "cat-file", "-e", f"{commit}^{{commit}}"], cwd=TOP,
+                                   capture_output=True)
+            is_whole = not (TOP / ".git" / "shallow").exists()
+            self.assertTrue(found.returncode == 0 or not is_whole, commit)
+
+
+class Reading(unittest.TestCase):
+    def test_anchors(self) -> None:
+        self.assertEqual(anchors("# A b, `c`\n\n## Who can ask\n\n```\n# no\n```\n"),
+                         {"a-b-c", "who-can-ask"})
+
+
+if __name__ == "__main__":
+    unittest.main()

@@ -1,0 +1,208 @@
+"""Asks two programs of the server the same random requests, and compares their replies.
+
+    tools/run compare_programs OLD NEW [--seed N] [--documents N] [--requests N]
+
+Documents have up to 1,500 nodes and few names, so that steps by a name find much. The requests are
+paths with predicates, from documents, from nodes and in loops, orders, groups, copies, constructors
+within one another, and now and then a store that changes the document. The status is 1 where a
+reply differs, which is printed.
+"""
+
+import argparse
+import random
+import sys
+from collections.abc import Iterator
+
+from tools.common import harness
+
+NAMES = ("a", "b", "c", "book", "t")
+SIZES = (20, 150, 400, 1500)
+AXES = ("//", "//", "/", "/descendant::", "/descendant-or-self::", "/ancestor::", "/following::",
+        "/preceding::", "/child::")
+PREDICATES = ("", "", "[1]", "[2]", "[last()]", "[position() <= 2]", "[position() > 3]",
+              "[position() = last()]", "[position() != 2]", "[position() >= 2]", '[@id = "1"]',
+              "[last()][{0}]", "[last()][2]", "[{0}]", '[{0} = "x"]', "[.//{0}]",
+              "[count(.//{0}) > 1]", "[position() eq 2]", "[3 > position()]", "[2 le position()]",
+              "[position() = 2 and {0}]", "[{0} and position() != 1]", '[@id = "1" and {0}]',
+              "[position() >= 2 and position() <= 4]", '[@id = "2"][{0} = "x"]', '["3" != @id]',
+              '[. = "x"]', '[@id < "3" and 2 < position()]', "[@id = 1]", '[@id = "1"][2]')
+QUERIES = (
+    "{path}", "{path}", "{path}", "count({path})", "({path})[{number}]//{name}",
+    "for $x in {path} return count($x//{name})",
+    'for $x in doc("d")//{other} order by string($x/{name}[1]) return string($x)',
+    '(for $x in doc("d")//{other} order by count($x//{name}), $x/@id descending'
+    " return string($x))[position() <= {number}]",
+    "let $k := document {{element q {{{path}}}}} return ($k//{name}, count($k//{name}))",
+    'for $x in doc("d")//{other} group by $g := count($x//{name}) return ($g, count($x))',
+    "some $x in {path} satisfies $x//{name}",
+    'doc("d")//{name}[@id = "{number}"]',
+    'for $k in ({path})[position() <= 9] return count(doc("d")//{name}[@id = $k/@id])',
+    'let $k := {path} return count(doc("d")//{other}[$k/{name} = {name}])',
+    'string-join({path}/string(), "|")',
+    "distinct-values({path}/{name}/data())",
+    'distinct-values(({path}/string(), doc("d")//@id/data(), "1", "x"))',
+    'distinct-values(({path}/string(), {number}, doc("d")//@id/data(), true(), "1"))',
+    'string-join((doc("d")//@id, {number}, {path}/string(), true(), "x"), "-")',
+    'for $x in {path} return element q {{string($x)}}',
+    'element q {{string-join({path}/@id)}}',
+    "({path}/string(.), {path} ! string-length(.))",
+    'count(doc("d")/r/{name}/{other}/{name})',
+    'doc("d")/r/{name}/{other}/@id/..',
+    'count(doc("d")//{name}//{other}/{name})',
+    "let $k := {path} return some $x in {path} satisfies $x/@id = $k/@id",
+    'let $k := {path} return every $x in doc("d")//{name} satisfies $x/{other} = $k/{other}',
+    'some $y in {path}, $x in doc("d")//{other} satisfies $y/@id = $x/@id',
+    "for $x in {path}, $y in {path} let $z := $y/{name} where $y/@id = $x/@id return count($z)",
+    "for $x in {path}, $y in {path} where $y/{name} where $x/@id = $y/@id return string($y)",
+    'for $x in {path}, $y in {path} let $z := $x/@k + 1 where $y/@id = $x/@id return $z',
+    "for $x in {path} let $y := {path} where $x/@id = $y/@id and $x/{name} return count($y)",
+    'for $x in {path} let $k := $x/@id return count({path}/{other}[@id = $k])',
+    '({path})[position() ge 2 and position() lt {number}]/{name}[. = "x" and @id]',
+    "for $x in {path} return (count($x/{name}) * 2 + 1) div {number} || concat($x/@id, 1, 'z')",
+    "element {{concat('q', {number})}} {{attribute {{'a'}} {{{number}, 'x'}}, {path}/string()}}",
+    "for $x in 1 to {number}, $y in 2 return ($x * $y - 3 idiv $x + 1.5, {path}[$y])",
+    "for $x in 1 to {number} return {path}[$x - 1]",
+    "for $x in (0, {number}, 1.5) return concat('a', -7 + $x, {number} mod 2, 3 * $x)",
+    "let $z := 0, $x := ({number}, 2) return ({number} idiv $z, 1 + $x)",
+    "for $x in ({number}, 2.5, -7), $y in (3, 0.5) return ($x - $y) * ($x + 2) - $x mod $y idiv 2",
+    "for $x in (9223372036854775807, 4611686018427387904, 0 - {number}) return $x * 2 - $x",
+    "for $x in ({number}, 0 - 9223372036854775807) return ($x - 1) idiv -1 - ($x - 1) mod -1",
+    'for $n in (1, 2.0, 0.5, {number}) return doc("d")//{name}/{other}[$n]',
+    "element {name} {{{number} + 1}}, element {other} {{concat('', {number})}}, element e {{''}}",
+    'doc("d")//{other}/{name}[2]/string()',
+)
+ATOMS = ('"x"', '""', '" "', "{0}", "{0}.5", "$k", "$k * 2 - 3", "concat('t', $k, {0})", "true()",
+         "('a', 'b', 'c', 'd')[{0}]", "('a', 2, 1.5)[$k mod 4]", "(1, 2)", "()")
+NODE_NAMES = ("a", "b", "id", "id", "k", '{" a "}', '{"xmlns"}', '{concat("n", $k)}')
+CONSTRUCTED = (
+    "let $k := {0} return ({1})",
+    "let $k := {0} return count(({1})//node())",
+    "for $k in 1 to {0} return element q {{{1}}}",
+    "for $k in 1 to {0} return string(element q {{{1}}})",
+    "for $k in ({0}, 2) let $x := element q {{{1}}} return ($x/@*, $x/node(), $x//*/..)",
+    "let $k := {0}, $x := ({1}) return (element a {{$x}}, document {{$x, $x}}/node())",
+    "let $k := {0} return document {{{1}}}",
+)
+"""Queries of a number and constructors."""
+GROWN = 'document {{element r {{doc("d")/r/*[position() <= 30], element {name} {{"new"}}}}}}'
+MOST_SHOWN = 5
+
+
+class Requests:
+    """Random documents and requests, by a seed."""
+
+    def __init__(self, seed: int) -> None:
+        self.random = random.Random(seed)
+        self.room = 0
+
+    def name(self) -> str:
+        """A name, or one that no element has."""
+        return self.random.choice((*NAMES, "nosuch"))
+
+    def leaf(self) -> str:
+        """A text, or a comment."""
+        value = self.random.choice(("x", "y", "zz", "1", "2", "10"))
+        text = f'text {{"{value}"}}'
+        return self.random.choice((text, text, text, 'comment {"c"}'))
+
+    def element(self, level: int) -> str:
+        """The constructor of an element, as far as there is room for more nodes."""
+        parts = []
+        if self.random.random() < 0.5:
+            name = self.random.choice(("id", "a", "k"))
+            value = self.random.randint(0, 5)
+            parts.append(f'attribute {name} {{"{value}"}}')
+        while self.room > 0 and len(parts) < 40 and self.random.random() < 0.75:
+            self.room -= 1
+            is_inner = level < 8 and self.random.random() < 0.72
+            parts.append(self.element(level + 1) if is_inner else self.leaf())
+        name = self.random.choice(NAMES[:self.random.randint(1, len(NAMES))])
+        return f"element {name} {{{', '.join(parts)}}}"
+
+    def document(self) -> str:
+        """The constructor of a document."""
+        self.room = self.random.choice(SIZES)
+        parts = [self.element(1) for _ in range(self.random.randint(1, 6))]
+        return f"document {{element r {{{', '.join(parts)}}}}}"
+
+    def path(self) -> str:
+        """A path from the document, of one to three steps."""
+        steps = []
+        for _ in range(self.random.randint(1, 3)):
+            predicate = self.random.choice(PREDICATES).format(self.name())
+            steps.append(self.random.choice(AXES) + self.name() + predicate)
+        return 'doc("d")' + "".join(steps)
+
+    def constructor(self, level: int) -> str:
+        """A constructor, an atom, or nodes of the document."""
+        atom = self.random.choice(ATOMS).format(self.random.randint(0, 5))
+        name = self.random.choice(NODE_NAMES)
+        content = self.content(level + 1)
+        return self.random.choice((
+            f"attribute {name} {{{atom}}}", f"element {name} {{{content}}}",
+            f"element {name} {{{content}}}", f"element {name} {{{atom}}}", f"text {{{atom}}}", atom,
+            f"comment {{{atom}}}", f"processing-instruction p {{{atom}}}",
+            f"document {{{content}}}",
+            f"(for $k in 1 to 3 return {self.constructor(level + 1)})" if level < 4 else "$k",
+            self.path()))
+
+    def content(self, level: int) -> str:
+        """Some constructors one after another, attributes mostly first."""
+        if level > 4:
+            return self.random.choice(("", "$k", '"x"'))
+        parts = [self.constructor(level) for _ in range(self.random.choice((0, 1, 1, 2, 3, 4)))]
+        if self.random.random() < 0.8:
+            parts.sort(key=lambda part: not part.startswith("attribute"))
+        return ", ".join(parts)
+
+    def query(self) -> str:
+        """A query over the document."""
+        if self.random.random() < 0.25:
+            return self.random.choice(CONSTRUCTED).format(
+                self.random.randint(0, 5), self.content(0) or "()")
+        return self.random.choice(QUERIES).format(
+            path=self.path(), name=self.name(), other=self.name(),
+            number=self.random.randint(0, 9))
+
+    def request(self) -> tuple[bytes, bytes]:
+        """A kind and a body: mostly a query, sometimes a store."""
+        choice = self.random.random()
+        if choice < 0.06:
+            return b"S", harness.store(b"d", GROWN.format(name=self.name()).encode())
+        if choice < 0.1:
+            return b"S", harness.store(b"e", self.path().encode())
+        return b"Q", self.query().encode()
+
+    def all(self, documents: int, requests: int) -> Iterator[tuple[bytes, bytes]]:
+        """So many requests over each of so many documents."""
+        for _ in range(documents):
+            yield b"S", harness.store(b"d", self.document().encode())
+            for _ in range(requests):
+                yield self.request()
+
+
+def main() -> int:
+    """Compares the programs that the command line names."""
+    parser = argparse.ArgumentParser(description=__doc__.splitlines()[0])
+    parser.add_argument("old")
+    parser.add_argument("new")
+    parser.add_argument("--seed", type=int, default=1)
+    parser.add_argument("--documents", type=int, default=40)
+    parser.add_argument("--requests", type=int, default=100)
+    given = parser.parse_args()
+    old, new = harness.Server([given.old]), harness.Server([given.new])
+    asked = refused = differ = 0
+    for kind, body in Requests(given.seed).all(given.documents, given.requests):
+        replies = old.ask(kind, body), new.ask(kind, body)
+        asked += 1
+        refused += replies[0] is not None and replies[0][0] != 0
+        if replies[0] != replies[1]:
+            differ += 1
+            if differ <= MOST_SHOWN:
+                print(kind, body, *replies, sep="\n  ")
+    print(f"{asked} requests, of which {refused} were refused; {differ} replies differ")
+    return 1 if differ else 0
+
+
+if __name__ == "__main__":
+    sys.exit(main())

@@ -1,0 +1,1 @@
+"""What ./serve and ./demo use, and what whoever runs a server starts."""
