@@ -17,7 +17,7 @@ ghost use Rattle.xq_sources.specs.Parents.{AreParents, IsParentRow};
 ghost use Rattle.xq_sources.specs.Sources.{tree_at};
 
 use crate::room::{is_chosen, make_room};
-use crate::shelves::{Cache, CachedDocument, address_at, all_of, are_whole};
+use crate::shelves::{Cache, CachedDocument, address_at, all_of, are_whole, sought_in};
 use crate::stores::Store;
 use sqlite::Alter;
 use std::alloc::Global;
@@ -81,13 +81,15 @@ fn read_rows<S: Alter>(
 }
 
 /// Reads the rows that are kept of a document on in this way. Where memory is short the guide to its
-/// parents stays behind: the rows are read without it.
+/// parents stays behind: the rows are read without it. Where all rows are there now, the name that
+/// was sought is looked for.
 fn read_front<S: Alter>(
     alloc: Global,
     store: &mut Store<S>,
     address: &str,
     front: &mut CachedDocument,
     place: u32,
+    sought: Option<&str>,
 ) -> Result<(), Want>
     ensures front { IsClean S.Store store.new → (m : Map) → StandsFor S.Store store.old m
         → (t : Tree) → get m address.now ≡ Some t → IsFrontOf t front.old
@@ -104,6 +106,7 @@ fn read_front<S: Alter>(
 {
     let read = read_rows(alloc, store, address, &mut front.rows, place);
     let _ = front.guide.read_on(&all_of(&front.rows));
+    front.find_sought(alloc, sought);
     read
 }
 
@@ -284,7 +287,8 @@ pub(crate) fn read_on<S: Alter>(
     shelf.clock = shelf.clock.saturating_add(1);
     front.read_at(shelf.clock, is_chosen(shelf.clock));
     let before = front.bytes();
-    let read = read_front(alloc, store, address, front, place);
+    let sought = sought_in(&shelf.sought, tree);
+    let read = read_front(alloc, store, address, front, place, sought);
     let more = front.bytes().saturating_sub(before);
     shelf.kept = shelf.kept.saturating_add(more);
     shelf.stays &= read.is_ok();

@@ -4,7 +4,7 @@ use crate::fronts::{
     NO_ROWS, RowRange, find_in_front, find_values_in, kept_run, named_in, parent_of, parents_in,
     read_on, valued_in,
 };
-use crate::shelves::cached_rows;
+use crate::shelves::{cached_rows, note_sought};
 use crate::views::{Origin, View};
 use sqlite::Alter;
 use std::alloc::Global;
@@ -56,6 +56,8 @@ impl<S: Alter, O: Origin> RowLender for View<S, O> {
         tree: usize,
         name: &str,
     ) -> Result<Option<Vec<u32>>, Want> {
+        let sought = &mut self.shelf.sought;
+        note_sought(alloc, &self.shelf.fronts, sought, tree, name);
         find_in_front(alloc, &mut self.shelf.fronts, &mut self.meter, tree, name)
     }
 
