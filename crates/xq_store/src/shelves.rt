@@ -22,15 +22,15 @@ use xq_tables::{FoundDocument, kept_bytes};
 /// How many rows stay of a document as a stub.
 const STUB_ROWS: usize = 1;
 
-/// Of how many first rows the places of parents stay, so that it can be told whether a name is looked
-/// for.
+/// How many bytes these take, by the same count as others, with their name.
+const BYTES_OF_A_STUB: usize = 88;
+
+/// Of how many first rows of a document of many rows the places of parents stay: by these it is told
+/// whether a name is looked for.
 const GUIDED_ROWS: usize = 66;
 
-/// How many bytes a stub takes beside its row and its names: the places of those parents.
-const BYTES_OF_A_STUB: usize = 4 * GUIDED_ROWS;
-
-/// From how many rows below its root on a document leaves a stub without names.
-const LARGE: usize = 255;
+/// From how many rows below its root on a document has many.
+const MANY: u32 = 255;
 
 /// How many bytes a place takes.
 const BYTES_OF_A_PLACE: usize = 4;
@@ -39,8 +39,8 @@ const BYTES_OF_A_PLACE: usize = 4;
 const BYTES_OF_A_NAME: usize = 64;
 
 /// What is kept of a document: its first rows, and what was found among them. Once its rows are
-/// forgotten it is a stub: its first row, the places of names that were found, and where the parents
-/// of its first nodes lie.
+/// forgotten it is a stub: its first row, the places of names that were found, and, where it has many
+/// rows, where the parents of its first nodes lie.
 #[derive(Drop)]
 pub(crate) struct CachedDocument {
     pub rows: PackedRows,
@@ -64,7 +64,7 @@ pub(crate) struct CachedDocument {
 /// A part of what is kept of a document, which is forgotten at once.
 #[derive(Clone, Copy)]
 pub(crate) enum Part {
-    /// Its rows, but for the first: a stub stays of a document of many rows, or with names.
+    /// Its rows, but for the first: a stub stays.
     Rows,
     /// What stayed as a stub.
     Stub,
@@ -169,12 +169,12 @@ impl CachedDocument {
     }
 
     /// How many bytes are kept at most: rows with their values, and of each row the place of its
-    /// parent, and its place among those of its name; or what a stub takes.
+    /// parent, and its place among those of its name; of a stub the places that stayed.
     pub fn bytes(&self) -> usize {
         let rows = kept_bytes(&self.rows);
-        if self.is_stub() && !self.rows.is_empty() {
-            rows.saturating_add(self.named)
-                .saturating_add(BYTES_OF_A_STUB)
+        if self.is_stub() {
+            rows.saturating_add(self.guide.places().len().saturating_mul(BYTES_OF_A_PLACE))
+                .saturating_add(self.named)
         } else {
             rows
         }
@@ -184,25 +184,25 @@ impl CachedDocument {
     pub fn bytes_of(&self, part: Part) -> usize {
         match part {
             Part::Rows if self.is_stub() => 0,
-            Part::Rows if self.leaves_a_stub() => self
-                .bytes()
-                .saturating_sub(self.named)
-                .saturating_sub(BYTES_OF_A_STUB),
-            Part::Rows => self.bytes(),
+            Part::Rows => self.bytes().saturating_sub(self.bytes_left()),
             Part::Stub if self.is_stub() => self.bytes(),
             Part::Stub => 0,
         }
     }
 
-    /// Whether a stub stays once the rows are forgotten: where names were found, or the document has
-    /// so many rows that a statement for its first ones alone costs less than one for all.
-    fn leaves_a_stub(&self) -> bool {
-        if !self.names.is_empty() {
-            return true;
-        }
+    /// How many bytes a stub will take.
+    fn bytes_left(&self) -> usize {
+        let guided = self.guided_rows().saturating_mul(BYTES_OF_A_PLACE);
+        self.named
+            .saturating_add(guided)
+            .saturating_add(BYTES_OF_A_STUB)
+    }
+
+    /// Of how many first rows the places of parents stay.
+    fn guided_rows(&self) -> usize {
         match self.rows.get(0) {
-            Some(root) => root.size() as usize >= LARGE,
-            None => false,
+            Some(root) if root.size() >= MANY => GUIDED_ROWS,
+            _ => 0,
         }
     }
 
@@ -211,8 +211,8 @@ impl CachedDocument {
         ensures { (t : Tree) → IsFrontOf t self.old → IsFrontOf t self.new }
     {
         match part {
-            Part::Rows if self.leaves_a_stub() => self.forget_rows(alloc),
-            _ => *self = CachedDocument::new(alloc),
+            Part::Rows => self.forget_rows(alloc),
+            Part::Stub => *self = CachedDocument::new(alloc),
         }
     }
 
@@ -221,8 +221,8 @@ impl CachedDocument {
     fn forget_rows(&mut self, alloc: Global)
         ensures { (t : Tree) → IsFrontOf t self.old → IsFrontOf t self.new }
     {
+        let few = all_of(&self.rows).first(self.guided_rows());
         let mut guide = Guide::new(alloc);
-        let few = all_of(&self.rows).first(GUIDED_ROWS);
         let _ = guide.read_on(&few);
         let mut rows = PackedRows::new(alloc);
         let _ = rows.append_run(&self.rows, 0, STUB_ROWS, 0, 0);
