@@ -25,8 +25,11 @@ use xq_atoms::Want;
 use xq_packed::PackedRows;
 use xq_sources::{LentRows, Meter, no_parents};
 
-/// How many rows are read at a time.
-const PART: u32 = 1_024;
+/// How many rows are read at a time, beside the first of them.
+pub(crate) const PART: u32 = 1_023;
+
+/// How many are read in a pass over roots: by so many it is told whether a name is looked for.
+const FEW: u32 = 65;
 
 /// Rows of a tree from `low` to `high`.
 #[derive(Clone, Copy)]
@@ -43,6 +46,18 @@ pub(crate) const NO_ROWS: RowRange = RowRange {
     high: 0,
 };
 
+/// How many rows are read at a time where the row of a node is wanted after a run: few where roots of
+/// trees beside one another are asked for, one after another. So many rows of all of them may be
+/// forgotten before more of one is wanted.
+pub(crate) fn part_after(run: RowRange, tree: usize, node: u32) -> u32 {
+    let is_root = run.low == 0 && run.high == 0;
+    if is_root && node == 0 && run.tree.saturating_add(1) == tree {
+        FEW
+    } else {
+        PART
+    }
+}
+
 /// Reads the document of an address on, a part at a time, until its rows reach a place or are all
 /// there.
 fn read_rows<S: Alter>(
@@ -51,6 +66,7 @@ fn read_rows<S: Alter>(
     address: &str,
     rows: &mut PackedRows,
     place: u32,
+    part: u32,
 ) -> Result<(), Want>
     ensures front { IsClean S.Store store.new → (m : Map) → StandsFor S.Store store.old m
         → (t : Tree) → get m address.now ≡ Some t → IsFront t (enumerate_from 0 rows.old.rows)
@@ -70,7 +86,7 @@ fn read_rows<S: Alter>(
             return Ok(());
         }
         let low = rows.len() as u32;
-        let high = low.saturating_add(PART - 1);
+        let high = low.saturating_add(part);
         let found = store.read_between(alloc, address, low, high)?;
         if found.is_empty() {
             return Ok(());
@@ -89,6 +105,7 @@ fn read_front<S: Alter>(
     address: &str,
     front: &mut CachedDocument,
     place: u32,
+    part: u32,
     sought: Option<&str>,
 ) -> Result<(), Want>
     ensures front { IsClean S.Store store.new → (m : Map) → StandsFor S.Store store.old m
@@ -104,7 +121,7 @@ fn read_front<S: Alter>(
     ensures was_clean { IsClean S.Store store.new → IsClean S.Store store.old }
     ensures alone { LeavesAlone S.Store store.old store.new }
 {
-    let read = read_rows(alloc, store, address, &mut front.rows, place);
+    let read = read_rows(alloc, store, address, &mut front.rows, place, part);
     let _ = front.guide.read_on(&all_of(&front.rows));
     front.find_sought(alloc, sought);
     read
@@ -249,14 +266,15 @@ fn has_reached(shelf: &mut Cache, tree: usize, place: u32) -> bool
     front.rows.len() > place as usize
 }
 
-/// Reads a document on until its rows reach a place, or are all there. Where that is refused, the
-/// store is to keep nothing.
+/// Reads a document on, a part at a time, until its rows reach a place, or are all there. Where that
+/// is refused, the store is to keep nothing.
 pub(crate) fn read_on<S: Alter>(
     alloc: Global,
     store: &mut Store<S>,
     shelf: &mut Cache,
     tree: usize,
     place: u32,
+    part: u32,
 ) -> Result<(), Want>
     ensures addresses { shelf.new.addresses ≡ shelf.old.addresses }
     ensures fronts { IsClean S.Store store.new → (m : Map) → StandsFor S.Store store.old m
@@ -288,7 +306,7 @@ pub(crate) fn read_on<S: Alter>(
     front.read_at(shelf.clock, is_chosen(shelf.clock));
     let before = front.bytes();
     let sought = sought_in(&shelf.sought, tree);
-    let read = read_front(alloc, store, address, front, place, sought);
+    let read = read_front(alloc, store, address, front, place, part, sought);
     let more = front.bytes().saturating_sub(before);
     shelf.kept = shelf.kept.saturating_add(more);
     shelf.stays &= read.is_ok();
