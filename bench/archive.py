@@ -182,8 +182,9 @@ def measured(server: Opened, documents: int, kept: int) -> Figures:
 def compared(server: Opened, peers: Sequence[Driven]) -> dict[str, dict[str, float]]:
     """The times of what is compared with BaseX, the medians; ends where it finds something else."""
     found: dict[str, dict[str, float]] = {}
+    engines: list[Program | Driven] = [server, *peers]
     for what, query in ALL.items():
-        for engine in (server, *peers):
+        for engine in engines:
             place = "collection()" if engine is server else 'collection("lib")'
             spent = [engine.run(query.format(all=place), 1)[0].processor for _ in range(TURNS)]
             found.setdefault(what, {})[engine.name] = statistics.median(spent)
