@@ -258,7 +258,10 @@ fewer_first t k ps front = first-of-front t (take k ps) (drop k ps) (subst (IsFr
 -- and so are a copy of them, and none
 pub copied_first : {E : Type 0} (t : Tree) (old rs new : List Row) (k : ℕ) (r : Result (Unit {0}) E) → old ≡ [] → IsFront t (enumerate_from 0 rs) → OnOk r (new ≡ old ++ map (moved 0 0) (slice_range rs 0 k)) → OnErr r (new ≡ old) → IsFront t (enumerate_from 0 new)
 copied_first t old rs new k (Ok done) none front copied kept =
-    let is : new ≡ take k rs = copied ∙ ap (λ l. l ++ map (moved 0 0) (take k rs)) none ∙ stays (take k rs) in
+    let some = slice_range rs 0 k in
+    let whole : k - 0 ≡ k = omega arith in
+    let first : some ≡ take k rs = ap (λ n. take n rs) whole in
+    let is : new ≡ take k rs = copied ∙ ap (λ l. l ++ map (moved 0 0) some) none ∙ stays some ∙ first in
     subst (λ l. IsFront t (enumerate_from 0 l)) (sym is) (subst (IsFront t) (first-numbered k 0 rs) (fewer_first t k (enumerate_from 0 rs) front))
 copied_first t old rs new k (Err want) none front copied kept = subst (λ l. IsFront t (enumerate_from 0 l)) (sym (kept ∙ none)) (first_kept t 0)
 
