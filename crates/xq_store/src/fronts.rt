@@ -46,8 +46,8 @@ pub(crate) const NO_ROWS: RowRange = RowRange {
     high: 0,
 };
 
-/// How many rows are read at a time where the row of a node is wanted after a run: few where roots of
-/// trees beside one another are asked for, one after another. So many rows of all of them may be
+/// How many rows are read at a time where the row of a node is wanted after a run: few where roots
+/// of trees beside one another are asked for, one after another. So many rows of all of them may be
 /// forgotten before more of one is wanted.
 pub(crate) fn part_after(run: RowRange, tree: usize, node: u32) -> u32 {
     let is_root = run.low == 0 && run.high == 0;
@@ -96,9 +96,9 @@ fn read_rows<S: Alter>(
     Ok(())
 }
 
-/// Reads the rows that are kept of a document on in this way. Where memory is short the guide to its
-/// parents stays behind: the rows are read without it. Where all rows are there now, the name that
-/// was sought is looked for.
+/// Reads the rows that are kept of a document on in this way. Where memory is short the guide to
+/// its parents stays behind: the rows are read without it. Where all rows are there now, the name
+/// that was sought is looked for.
 fn read_front<S: Alter>(
     alloc: Global,
     store: &mut Store<S>,
@@ -249,8 +249,8 @@ pub(crate) fn kept_run(fronts: &[CachedDocument], run: RowRange) -> LentRows<'_>
     }
 }
 
-/// Whether the rows that are kept of a tree reach a place. They are wanted now, and again where they
-/// were wanted before.
+/// Whether the rows that are kept of a tree reach a place. They are wanted now, and again where
+/// they were wanted before.
 fn has_reached(shelf: &mut Cache, tree: usize, place: u32) -> bool
     ensures reached { IsTrue result → (trees : List Tree) → AreFronts trees shelf.old.fronts.items
         → HasReached trees shelf.new.fronts.items tree place }
@@ -266,8 +266,8 @@ fn has_reached(shelf: &mut Cache, tree: usize, place: u32) -> bool
     front.rows.len() > place as usize
 }
 
-/// Reads a document on, a part at a time, until its rows reach a place, or are all there. Where that
-/// is refused, the store is to keep nothing.
+/// Reads a document on, a part at a time, until its rows reach a place, or are all there. Where
+/// that is refused, the store is to keep nothing.
 pub(crate) fn read_on<S: Alter>(
     alloc: Global,
     store: &mut Store<S>,

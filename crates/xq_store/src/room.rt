@@ -64,13 +64,7 @@ fn bytes_below(fronts: &[CachedDocument], tree: usize, part: Part, limit: u64) -
 
 /// The least rank below which so many bytes are free once a part is forgotten of documents, but for
 /// one, or one above all ranks by the time.
-fn least_limit(
-    fronts: &[CachedDocument],
-    tree: usize,
-    part: Part,
-    bytes: usize,
-    time: u64,
-) -> u64 {
+fn least_limit(fronts: &[CachedDocument], tree: usize, part: Part, bytes: usize, time: u64) -> u64 {
     let mut low = (AGAIN - 1).saturating_sub(time);
     let mut high = AGAIN.saturating_add(time).saturating_add(1);
     for _half in 0..u64::BITS {
@@ -110,14 +104,7 @@ fn forget(alloc: Global, fronts: &mut Vec<CachedDocument>, tree: usize, part: Pa
 
 /// Forgets a part of those of the trees that are below a rank, but for one, until no more than so
 /// many bytes are kept.
-fn forget_below(
-    alloc: Global,
-    shelf: &mut Cache,
-    tree: usize,
-    part: Part,
-    limit: u64,
-    left: usize,
-)
+fn forget_below(alloc: Global, shelf: &mut Cache, tree: usize, part: Part, limit: u64, left: usize)
     ensures addresses { shelf.new.addresses ≡ shelf.old.addresses }
     ensures fronts { (trees : List Tree) → AreFronts trees shelf.old.fronts.items
         → AreFronts trees shelf.new.fronts.items }
@@ -152,7 +139,8 @@ fn forget_least(alloc: Global, shelf: &mut Cache, tree: usize, part: Part, left:
     forget_below(alloc, shelf, tree, part, limit, left);
 }
 
-/// Where stubs take more than their part of the bound, forgets those of the least rank, but for one.
+/// Where stubs take more than their part of the bound, forgets those of the least rank, but for
+/// one.
 fn thin_stubs(alloc: Global, shelf: &mut Cache, tree: usize, bound: usize)
     ensures addresses { shelf.new.addresses ≡ shelf.old.addresses }
     ensures fronts { (trees : List Tree) → AreFronts trees shelf.old.fronts.items

@@ -25,8 +25,8 @@ const STUB_ROWS: usize = 1;
 /// How many bytes these take, by the same count as others, with their name.
 const BYTES_OF_A_STUB: usize = 88;
 
-/// Of how many first rows of a document of many rows the places of parents stay: by these it is told
-/// whether a name is looked for.
+/// Of how many first rows of a document of many rows the places of parents stay: by these it is
+/// told whether a name is looked for.
 const GUIDED_ROWS: usize = 66;
 
 /// From how many rows below its root on a document has many.
@@ -39,8 +39,8 @@ const BYTES_OF_A_PLACE: usize = 4;
 const BYTES_OF_A_NAME: usize = 64;
 
 /// What is kept of a document: its first rows, and what was found among them. Once its rows are
-/// forgotten it is a stub: its first row, the places of names that were found, and, where it has many
-/// rows, where the parents of its first nodes lie.
+/// forgotten it is a stub: its first row, the places of names that were found, and, where it has
+/// many rows, where the parents of its first nodes lie.
 #[derive(Drop)]
 pub(crate) struct CachedDocument {
     pub rows: PackedRows,
@@ -81,8 +81,8 @@ pub(crate) struct Cache {
     /// How often rows were wanted that had to be read, a document came with its rows, or a view
     /// began.
     pub clock: u64,
-    /// The name that was looked for last in a document of which not all rows were here: it is looked
-    /// for once they are.
+    /// The name that was looked for last in a document of which not all rows were here: it is
+    /// looked for once they are.
     pub sought: Option<SoughtName>,
     /// Whether the store may keep this when its view ends.
     pub stays: bool,
@@ -216,8 +216,8 @@ impl CachedDocument {
         }
     }
 
-    /// Forgets all rows but the first, and what was found among them, but for the names. Where memory
-    /// is short, the first is forgotten too.
+    /// Forgets all rows but the first, and what was found among them, but for the names. Where
+    /// memory is short, the first is forgotten too.
     fn forget_rows(&mut self, alloc: Global)
         ensures { (t : Tree) → IsFrontOf t self.old → IsFrontOf t self.new }
     {
@@ -265,8 +265,9 @@ impl CachedDocument {
         looked
     }
 
-    /// Looks for the places of the elements with the name, if there is one, where these are all rows
-    /// of the document now: they were just read, so a look at each of them costs little beside.
+    /// Looks for the places of the elements with the name, if there is one, where these are all
+    /// rows of the document now: they were just read, so a look at each of them costs little
+    /// beside.
     pub fn find_sought(&mut self, alloc: Global, name: Option<&str>)
         ensures kept { (t : Tree) → IsFrontOf t self.old → IsFrontOf t self.new }
         ensures rows { self.new.rows ≡ self.old.rows }
@@ -428,8 +429,8 @@ fn no_rows(alloc: Global, count: usize) -> Result<Vec<CachedDocument>, Want>
     Ok(fronts)
 }
 
-/// The addresses of documents that an opening found, what is kept of each of them, and how many bytes
-/// that are in all.
+/// The addresses of documents that an opening found, what is kept of each of them, and how many
+/// bytes that are in all.
 fn cached(
     alloc: Global,
     documents: Vec<FoundDocument>,
