@@ -46,7 +46,7 @@ class Judged(unittest.TestCase):
         self.assertEqual(list(archive.bounds(10, [100.0], {OURS: {}})), [])
 
     def test_the_second_pass_is_judged_by_rows_that_do_not_fit(self) -> None:
-        with mock.patch("archive.unkept", return_value=50):
+        with mock.patch("bench.archive.unkept", return_value=50):
             [found] = archive.bounds(100, [], {OURS: {1: figures(2.0, 250.0, 1.0)}})
         self.assertAlmostEqual(found.ratio, 250.0 / (50 * archive.ROWS * 2.0 / 1e3))
 
@@ -55,7 +55,7 @@ class Judged(unittest.TestCase):
 
     def test_a_base_is_compared(self) -> None:
         of = {OURS: {1: figures(1.0, 1.0, 2.0)}, BASE: {1: figures(2.0, 1.0, 4.0)}}
-        with mock.patch("archive.unkept", return_value=50):
+        with mock.patch("bench.archive.unkept", return_value=50):
             found = list(archive.bounds(100, [], of))
         self.assertEqual([(it.ratio, it.most) for it in found[1:]], [(0.5, 0.6), (0.5, 1.0)])
 
