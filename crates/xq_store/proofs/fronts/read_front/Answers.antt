@@ -1,4 +1,4 @@
-use Rattle.std.proofs.Common.{sym, ap, subst}
+use Rattle.std.proofs.Common.{sym, subst}
 use Rattle.std.specs.List.{enumerate_from}
 use Rattle.std.specs.Prelude.{OnOk}
 use Rattle.xq_packed.specs.Packed.{Packed}
