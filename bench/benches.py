@@ -21,8 +21,8 @@ from tools.common.repository import TOP
 from tools.common.workspace import bench_program
 
 # Benchmarks of the libraries that are a script of their own, and those that are a program alone.
-OF_LIBRARIES = ("lexer", "parser", "statics", "plan", "build", "functions", "evaluation", "axes",
-                "memory", "stack")
+OF_LIBRARIES = ("lexer", "parser", "statics", "planning", "build", "functions", "evaluation",
+                "axes", "memory", "stack")
 PROGRAMS = {"regions": ("xq_trees", "anyhow"),
             "tuples": ("xq_atoms", "xq_trees", "xq_tuples", "anyhow")}
 # Benchmarks of the program; those that stop at --server take the proved one of this clone.

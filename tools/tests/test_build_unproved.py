@@ -11,7 +11,7 @@ import unittest
 
 from tools.common import repository
 from tools.user import build_unproved
-from tools.user.build_unproved import NotBuilt
+from tools.user.build_unproved import NotBuilt, Program
 
 AS_WATCHED = ["-O0", "-fsanitize=address"]
 KIT = ["-mllvm", "-no-x86-call-frame-opt", "-c", "-x", "ir", "module.bc", "-o", "module.o"]
@@ -78,15 +78,16 @@ class Place(unittest.TestCase):
         self.source.parent.mkdir(parents=True)
         self.source.write_text(CHECKED)
         (self.top / "crates.txt").write_text("app:\n")
+        self.program = Program.of_crate(self.top, "app")
 
     def test_a_changed_source_has_another_place(self) -> None:
-        before = build_unproved.place(self.top, "app")
-        self.assertEqual(before, build_unproved.place(self.top, "app"))
+        before = self.program.place()
+        self.assertEqual(before, self.program.place())
         self.source.write_text(CHECKED.replace("100", "101"))
-        self.assertNotEqual(before, build_unproved.place(self.top, "app"))
+        self.assertNotEqual(before, self.program.place())
 
     def test_a_program_takes_the_place_of_older_ones(self) -> None:
-        to = build_unproved.place(self.top, "app")
+        to = self.program.place()
         (to.parent.parent / "older").mkdir(parents=True)
         (to.parent.parent / "new").mkdir()
         build_unproved.put(self.source, to)
@@ -97,7 +98,7 @@ class Place(unittest.TestCase):
     def test_the_program_answers_and_stops_where_a_check_fails(self) -> None:
         (self.top / "crates" / "app" / "stdin").write_text("a\n")
         (self.top / "crates" / "app" / "stdout").write_text("2\n")
-        program = build_unproved.build(self.top, "app")
+        program = build_unproved.build(self.program)
         for name, good, answer, bad in FAULTS:
             with self.subTest(name):
                 self.assertEqual(ran(program, good), (0, f"{answer}\n"))
@@ -108,8 +109,8 @@ class Place(unittest.TestCase):
         (self.top / "crates" / "app" / "stdin").write_text("a\n")
         (self.top / "crates" / "app" / "stdout").write_text("3\n")
         with self.assertRaises(NotBuilt):
-            build_unproved.build(self.top, "app")
-        self.assertFalse(build_unproved.place(self.top, "app").exists())
+            build_unproved.build(self.program)
+        self.assertFalse(self.program.place().exists())
 
 
 if __name__ == "__main__":

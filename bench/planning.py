@@ -1,6 +1,6 @@
 """Makes normal forms and plans of queries of up to a megabyte; prints how the times grow.
 
-    tools/run plan [FOLDER]     builds its program there, unless an earlier call did
+    tools/run planning [FOLDER]     builds its program there, unless an earlier call did
 
 A time is the least of fifteen runs, of the normal form and the plan alone; the three lengths of a
 query are run in turn. The queries are steps of one path, operands of one chain, clauses of one
@@ -66,7 +66,7 @@ QUERIES = (
 def main() -> int:
     """Builds and measures; status 1 where the times grow too fast."""
     with folder(__doc__) as room:
-        return measure(bench_program(room, "plan", USES), QUERIES, "planned", RUNS)
+        return measure(bench_program(room, "planning", USES), QUERIES, "planned", RUNS)
 
 
 if __name__ == "__main__":

@@ -1,0 +1,270 @@
+"""Which rules of the optimiser lead from a plan to the optimised one, by comparing the two.
+
+The rules are private functions of one pass, so they are not asked: each form of the optimised plan
+is held beside the form of the plan that it stands for, and where the two differ, what stands there
+names the rule. RULES has them by the names of their files in crates/xq_optimise/src.
+"""
+
+from __future__ import annotations
+
+import collections
+from collections.abc import Callable, Iterable, Sequence
+
+from tools.gate.plan_forms import Form
+
+RULES = {
+    "joins": "a `for` and the `where` after it are a `join`",
+    "order": "an equality stands before clauses that it doesn't need",
+    "positions": "`position()` stands first in a general comparison with a number",
+    "predicates": "a conjunction in a predicate is as many predicates",
+    "scanned": "predicates are judged over all nodes of a scan",
+    "wheres": "a conjunction in a `where` is as many `where` clauses",
+}
+# A form of the optimised plan, and the rule that made it so.
+Marks = list[tuple[Form, str]]
+GENERAL = {"eq": "=", "ne": "!=", "lt": "<", "le": "<=", "gt": ">", "ge": ">="}
+TURNED = {"=": "=", "!=": "!=", "<": ">", "<=": ">=", ">": "<", ">=": "<="}
+
+
+def derived(before: Form, after: Form) -> Marks | None:
+    """The rules that make one form of another, by where they did; None where these rules don't."""
+    if before.word == "path" and (found := of_path(before, after)) is not None:
+        return found
+    if before.word != after.word:
+        return None
+    found = by_parts(before, after)
+    if found is None and before.word in OF_FORMS:
+        return OF_FORMS[before.word](before, after)
+    return found
+
+
+def by_parts(before: Form, after: Form) -> Marks | None:
+    """The rules in the parts of a form that stays what it is."""
+    if (before.word, before.words) != (after.word, after.words):
+        return None
+    return in_turn(before.parts, after.parts)
+
+
+def in_turn(before: Sequence[Form], after: Sequence[Form]) -> Marks | None:
+    """The rules in forms that stand for others in the same order."""
+    if len(before) != len(after):
+        return None
+    marks: Marks = []
+    for old, new in zip(before, after, strict=True):
+        found = derived(old, new)
+        if found is None:
+            return None
+        marks += found
+    return marks
+
+
+def assigned(before: Iterable[Form], after: Sequence[Form]) -> tuple[list[Form], Marks] | None:
+    """For each form the first that may stand for it and that no other has."""
+    left, taken, marks = list(after), [], Marks()
+    for old in before:
+        for new in left:
+            found = derived(old, new)
+            if found is not None:
+                left.remove(new)
+                taken.append(new)
+                marks += found
+                break
+        else:
+            return None
+    return taken, marks
+
+
+def position_test(form: Form) -> tuple[str, Form] | None:
+    """The relation and the number of a comparison of `position()` with a literal."""
+    if form.word != "chain" or len(form.parts) != 2 or form.parts[1].word != "operand":
+        return None
+    operator = form.parts[1].words[0]
+    relation = GENERAL.get(operator, operator)
+    left, right = form.parts[0], form.parts[1].parts[0]
+    if is_position(left) and right.word == "integer" and relation in TURNED:
+        return relation, right
+    if is_position(right) and left.word == "integer" and relation in TURNED:
+        return TURNED[relation], left
+    return None
+
+
+def is_position(form: Form) -> bool:
+    """Whether the form is `position()`."""
+    return form.word == "call" and form.words == ("position",)
+
+
+def of_chain(before: Form, after: Form) -> Marks | None:
+    """The rule that turns a comparison of the position."""
+    old, new = position_test(before), position_test(after)
+    if old is None or new is None or old[0] != new[0] or old[1].words != new[1].words:
+        return None
+    return [(after, "positions")]
+
+
+def of_predicates(before: Sequence[Form], after: Sequence[Form]) -> Marks | None:
+    """The rules in a list of predicates."""
+    left, marks = list(after), Marks()
+    for old in before:
+        found = derived(old, left[0]) if left else None
+        if found is not None:
+            taken = left[:1]
+        elif old.word == "and":
+            taken = conjunctions(left, len(old.parts))
+            conjuncts = [it for form in taken for it in (
+                form.parts if form.word == "and" else (form,))]
+            matched = assigned(old.parts, conjuncts) if len(conjuncts) == len(old.parts) else None
+            if matched is None:
+                return None
+            found = [*matched[1], *((it, "predicates") for it in taken)]
+        else:
+            return None
+        marks += found
+        del left[:len(taken)]
+    return None if left else marks
+
+
+def conjunctions(left: Sequence[Form], count: int) -> list[Form]:
+    """The first predicates, until they have so many conjuncts."""
+    taken: list[Form] = []
+    for form in left:
+        if count <= 0:
+            break
+        taken.append(form)
+        count -= len(form.parts) if form.word == "and" else 1
+    return taken
+
+
+def of_step(before: Form, after: Form) -> Marks | None:
+    """The rules in the predicates of a step."""
+    if before.words != after.words or in_turn(before.parts[:1], after.parts[:1]) is None:
+        return None
+    return of_predicates(before.parts[1:], after.parts[1:])
+
+
+def of_filter(before: Form, after: Form) -> Marks | None:
+    """The rules in what is filtered, and in the predicates."""
+    start = derived(before.parts[0], after.parts[0])
+    predicates = of_predicates(before.parts[1:], after.parts[1:])
+    return None if start is None or predicates is None else start + predicates
+
+
+def unwound(form: Form, count: int) -> tuple[Form, list[tuple[Form, Form | None]]] | None:
+    """What a path starts from, and its last steps, so many; each with the filter that judges its
+    predicates over all nodes of the scan, where one does."""
+    steps: list[tuple[Form, Form | None]] = []
+    while len(steps) < count:
+        judging = form if form.word == "filter" else None
+        path = form.parts[0] if judging else form
+        if path.word != "path":
+            return None
+        of_path_steps: list[tuple[Form, Form | None]] = [(it, None) for it in path.parts[1:]]
+        of_path_steps[-1] = (path.parts[-1], judging)
+        steps = of_path_steps + steps
+        form = path.parts[0]
+    return (form, steps) if len(steps) == count else None
+
+
+def of_path(before: Form, after: Form) -> Marks | None:
+    """The rules in a path, whose steps with predicates may be scans that are filtered."""
+    found = unwound(after, len(before.parts) - 1)
+    marks = derived(before.parts[0], found[0]) if found else None
+    if found is None or marks is None:
+        return None
+    for old, (new, judging) in zip(before.parts[1:], found[1], strict=True):
+        of_one = derived(old, new) if judging is None else of_scanned(old, new, judging)
+        if of_one is None:
+            return None
+        marks += of_one
+    return marks
+
+
+def of_scanned(before: Form, scan: Form, judging: Form) -> Marks | None:
+    """The rules where a scan and a filter stand for a step with predicates."""
+    step = before.parts[0] if before.word == "each" else before
+    if step.word != "step" or scan.word != "scan" or step.words != scan.words:
+        return None
+    if in_turn(step.parts[:1], scan.parts) is None:
+        return None
+    found = of_predicates(step.parts[1:], judging.parts[1:])
+    return None if found is None else [(judging, "scanned"), *found]
+
+
+def key_plan(key: Form) -> Form:
+    """The plan that a key of a join stands for."""
+    slot = Form("slot", key.words[1:])
+    path = Form("path", (), (slot, *key.parts)) if key.parts else slot
+    return path if key.words[0] == "value" else Form("call", key.words[:1], (path,))
+
+
+def with_start(range_: Form, slot: str) -> Form:
+    """The range of a join, from another slot."""
+    start = Form("slot", (slot,))
+    return Form("path", (), (start, *range_.parts[1:])) if range_.word == "path" else start
+
+
+def written_out(join: Form) -> tuple[Form, Form]:
+    """The `for` and the `where` that a join stands for."""
+    range_, *others = join.parts
+    for it in others:
+        if it.word == "carried":
+            range_ = with_start(range_, it.words[0])
+    left, right = (key_plan(it) for it in others if it.word == "key")
+    test = Form("chain", (), (left, Form("operand", join.words, (right,))))
+    return Form("for", (), (range_,)), Form("where", (), (test,))
+
+
+def of_where(before: Form, left: Sequence[Form]) -> tuple[list[Form], Marks] | None:
+    """The `where` clauses among these that stand for one."""
+    whole = assigned([before], left)
+    if whole is not None or before.parts[0].word != "and":
+        return whole
+    found = assigned([Form("where", (), (it,)) for it in before.parts[0].parts], left)
+    return found and (found[0], [*found[1], *((it, "wheres") for it in found[0])])
+
+
+def of_clauses(before: Sequence[Form], after: Sequence[Form]) -> Marks | None:
+    """The rules among clauses, in which the joins are written out."""
+    tests = [it for it in after if it.word == "where"]
+    others = collections.deque(it for it in after if it.word != "where")
+    places, marks = list[Form](), Marks()
+    for old in before:
+        found = of_where(old, tests) if old.word == "where" else (
+            assigned([old], [others.popleft()]) if others else None)
+        if found is None:
+            return None
+        places += found[0]
+        marks += found[1]
+        tests = [it for it in tests if it not in found[0]]
+    if tests or others:
+        return None
+    return marks + [(it, "order") for number, it in enumerate(after) if it.word == "where" and any(
+        later in places[:places.index(it)] for later in after[number:])]
+
+
+def of_flwor(before: Form, after: Form) -> Marks | None:
+    """The rules in a FLWOR expression."""
+    clauses, of_join = list[Form](), dict[Form, Form]()
+    for clause in after.parts[:-1]:
+        written = written_out(clause) if clause.word == "join" else (clause,)
+        clauses += written
+        of_join |= dict.fromkeys(written, clause) if clause.word == "join" else {}
+    found = of_clauses(before.parts[:-1], clauses)
+    result = derived(before.parts[-1], after.parts[-1])
+    if found is None or result is None:
+        return None
+    joins = [(it, "joins") for it in dict.fromkeys(of_join.values())]
+    return [*((of_join.get(it, it), rule) for it, rule in found), *joins, *result]
+
+
+OF_FORMS: dict[str, Callable[[Form, Form], Marks | None]] = {
+    "chain": of_chain, "step": of_step, "filter": of_filter, "flwor": of_flwor,
+}
+
+
+def by_form(marks: Marks) -> dict[Form, list[str]]:
+    """The rules of each form, each once."""
+    found: dict[Form, list[str]] = {}
+    for form, rule in marks:
+        if rule not in found.setdefault(form, []):
+            found[form].append(rule)
+    return found
