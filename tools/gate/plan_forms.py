@@ -65,9 +65,16 @@ def test(axis: str, form: Form) -> str:
     return f"{axis}::{form.word}({name})"
 
 
+def short(scan: Form) -> str:
+    """A scan, as a path spells it at its shortest: `room`, `@room`."""
+    shown = test(scan.words[0], scan.parts[0])
+    is_name = not shown.endswith(")")
+    return shown.removeprefix("child::").replace("attribute::", "@") if is_name else shown
+
+
 def key(form: Form) -> str:
     """A key of a join."""
-    steps = [test(it.words[0], it.parts[0]) for it in form.parts]
+    steps = [short(it) for it in form.parts]
     path = "/".join((f"${form.words[1]}", *steps))
     return path if form.words[0] == "value" else f"{form.words[0]}({path})"
 

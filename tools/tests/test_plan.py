@@ -17,12 +17,13 @@ from tools.rows import tables
 # Files of the optimiser that are no rule: the pass, and what its rules ask.
 NO_RULES = {"held", "kinds", "lib", "lists", "scopes", "sure", "walk"}
 FORM = ('(flwor (for at (call doc (string "a b"))) (join eq (path (slot 0) (scan child (element)))'
-        ' (carried 0) (key value 2 (scan attribute (attribute "id"))) (key string 1))'
+        ' (carried 0) (key value 2 (scan child (element "a")) (scan attribute (attribute "id")))'
+        ' (key string 1 (scan child (text))))'
         ' (group 0 2) (return (sequence (slot 2) (string "x""y&amp;"))))')
 LINES = """\
 flwor
   for $5 at $6 in call doc string "a b"
-  join $7 in .. carrying $0 as $5 where $2/attribute::id eq string($1)   <- joins
+  join $7 in .. carrying $0 as $5 where $2/a/@id eq string($1/child::text())   <- joins
     path
       slot 0
       scan child::*
@@ -31,33 +32,40 @@ flwor
     sequence
       slot 2
       string "x""y&amp;\""""
+
+
+def path(slot: int, *scans: str) -> str:
+    """Scans from a slot."""
+    return f"(path (slot {slot}) {' '.join(f'(scan {it})' for it in scans)})"
+
+
+def step(*predicates: str) -> str:
+    """A step with predicates."""
+    return f"(step {' '.join((B, *predicates))})"
+
+
+ID, B = 'attribute (attribute "id")', 'child (element "b")'
+EQUAL = f"(chain {path(1, ID)} (operand = {path(0, ID)}))"
+TITLE = path(1, 'child (element "t")')
+RANGE = f"(for {path(0, B)})"
+JOIN = f"(join = {path(0, B)} (carried 0) (key value 1 (scan {ID})) (key value 0 (scan {ID})))"
+TEST = f'(chain (step {ID}) (operand = (string "1")))'
+LAST = "(return (slot 1))"
 # What a form becomes, and the rules that make it so.
-KEY = '(path (slot %d) (scan attribute (attribute "id")))'
-EQUAL = f"(chain {KEY % 1} (operand = {KEY % 0}))"
-TITLE = '(path (slot 1) (scan child (element "t")))'
-RANGE = '(path (slot 0) (scan child (element "b")))'
-JOIN = (f"(join = {RANGE} (carried 0) (key value 1 (scan attribute (attribute \"id\")))"
-        " (key value 0 (scan attribute (attribute \"id\"))))")
-STEP = '(step child (element "b"){})'
-TEST = '(chain (step attribute (attribute "id")) (operand = (string "1")))'
 DERIVED = (
     ("(chain (integer 2) (operand gt (call position)))",
      "(chain (call position) (operand < (integer 2)))", ["positions"]),
-    (f"(flwor (for {RANGE}) (for {RANGE}) (where {EQUAL}) (return (slot 1)))",
-     f"(flwor (for {RANGE}) {JOIN} (return (slot 1)))", ["joins"]),
-    (f"(flwor (for {RANGE}) (for {RANGE}) (where (and {TITLE} {EQUAL})) (return (slot 1)))",
-     f"(flwor (for {RANGE}) {JOIN} (where {TITLE}) (return (slot 1)))",
-     ["joins", "order", "wheres"]),
-    (f"(flwor (for {RANGE}) (where {TITLE}) (where {EQUAL}) (return (slot 1)))",
-     f"(flwor (for {RANGE}) (where {EQUAL}) (where {TITLE}) (return (slot 1)))", ["order"]),
-    (STEP.format(f" (and {TEST} (context-item))"), STEP.format(f" {TEST} (context-item)"),
-     ["predicates"]),
-    (f"(path (root) (each {STEP.format(f' {TEST}')}) (scan child (text)))",
-     f'(path (filter (path (root) (scan child (element "b"))) {TEST}) (scan child (text)))',
-     ["scanned"]),
-    (f"(path (root) (each {STEP.format(f' (and {TEST} {TEST})')}))",
-     f'(filter (path (root) (scan child (element "b"))) {TEST} {TEST})',
-     ["predicates", "scanned"]),
+    (f"(flwor {RANGE} {RANGE} (where {EQUAL}) {LAST})", f"(flwor {RANGE} {JOIN} {LAST})",
+     ["joins"]),
+    (f"(flwor {RANGE} {RANGE} (where (and {TITLE} {EQUAL})) {LAST})",
+     f"(flwor {RANGE} {JOIN} (where {TITLE}) {LAST})", ["joins", "order", "wheres"]),
+    (f"(flwor {RANGE} (where {TITLE}) (where {EQUAL}) {LAST})",
+     f"(flwor {RANGE} (where {EQUAL}) (where {TITLE}) {LAST})", ["order"]),
+    (step(f"(and {TEST} (context-item))"), step(TEST, "(context-item)"), ["predicates"]),
+    (f"(path (root) (each {step(TEST)}) (scan child (text)))",
+     f"(path (filter (path (root) (scan {B})) {TEST}) (scan child (text)))", ["scanned"]),
+    (f"(path (root) (each {step(f'(and {TEST} {TEST})')}))",
+     f"(filter (path (root) (scan {B})) {TEST} {TEST})", ["predicates", "scanned"]),
 )
 # Of each rule a query to which it applies.
 QUERIES = {
