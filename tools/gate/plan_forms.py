@@ -93,10 +93,11 @@ def variables(form: Form, slots: int) -> list[str]:
 
 def joined(form: Form, slots: int, outer: int) -> str:
     """The line of a join."""
-    carried = [f" carrying ${it.words[0]} as ${outer}" for it in form.parts if it.word == "carried"]
-    keys = [key(it) for it in form.parts if it.word == "key"]
-    where = f" {form.words[0]} ".join(keys)
-    return f"join ${slots} in ..{''.join(carried)} where {where}"
+    carried = next((it.words[0] for it in form.parts if it.word == "carried"), None)
+    carrying = f" carrying ${carried}" if carried else ""
+    renamed = f" as ${outer}" if carried not in (None, f"{outer}") else ""
+    where = f" {form.words[0]} ".join(key(it) for it in form.parts if it.word == "key")
+    return f"join ${slots} in ..{carrying}{renamed} where {where}"
 
 
 def bound(form: Form, slots: int) -> str:
