@@ -83,12 +83,13 @@ pub(crate) struct Cache {
     pub clock: u64,
     /// The name that was looked for last in a document of which not all rows were here: it is
     /// looked for once they are.
-    pub sought: Option<SoughtName>,
+    pub sought: SoughtName,
     /// Whether the store may keep this when its view ends.
     pub stays: bool,
 }
 
-/// A name that is to be looked for in a tree.
+/// A name that is to be looked for in a tree, or none. (A `None` would give each drop of a cache two
+/// ways, and each proof of one as many cases.)
 #[derive(Drop)]
 pub(crate) struct SoughtName {
     tree: usize,
@@ -96,11 +97,11 @@ pub(crate) struct SoughtName {
 }
 
 impl SoughtName {
-    /// The name, to be looked for in the tree; none where memory is short.
-    fn new(alloc: Global, tree: usize, name: &str) -> Option<SoughtName> {
-        match String::from_str(alloc, name) {
-            Ok(name) => Some(SoughtName { tree, name }),
-            Err(_) => None,
+    /// No name: no tree has this number.
+    fn none(alloc: Global) -> SoughtName {
+        SoughtName {
+            tree: usize::MAX,
+            name: String::new(alloc),
         }
     }
 }
@@ -354,7 +355,7 @@ pub(crate) fn are_whole(rows: &LentRows<'_>) -> bool
 pub(crate) fn note_sought(
     alloc: Global,
     fronts: &[CachedDocument],
-    sought: &mut Option<SoughtName>,
+    sought: &mut SoughtName,
     tree: usize,
     name: &str,
 ) {
@@ -364,17 +365,22 @@ pub(crate) fn note_sought(
     if are_whole(&front.lent()) || front.names.contains_key(name) {
         return;
     }
-    match sought {
-        Some(last) if last.name.as_str() == name => last.tree = tree,
-        _ => *sought = SoughtName::new(alloc, tree, name),
+    if sought.name.as_str() == name {
+        sought.tree = tree;
+        return;
     }
+    *sought = match String::from_str(alloc, name) {
+        Ok(name) => SoughtName { tree, name },
+        Err(_) => SoughtName::none(alloc),
+    };
 }
 
 /// The name that is to be looked for in a tree, where one is.
-pub(crate) fn sought_in(sought: &Option<SoughtName>, tree: usize) -> Option<&str> {
-    match sought {
-        Some(sought) if sought.tree == tree => Some(sought.name.as_str()),
-        _ => None,
+pub(crate) fn sought_in(sought: &SoughtName, tree: usize) -> Option<&str> {
+    if sought.tree == tree {
+        Some(sought.name.as_str())
+    } else {
+        None
     }
 }
 
@@ -465,7 +471,7 @@ impl Cache {
             fronts: Vec::new(alloc),
             kept: 0,
             clock: 0,
-            sought: None,
+            sought: SoughtName::none(alloc),
             stays: true,
         })
     }
@@ -482,7 +488,7 @@ impl Cache {
             fronts,
             kept: 0,
             clock: 0,
-            sought: None,
+            sought: SoughtName::none(alloc),
             stays: true,
         })
     }
@@ -504,7 +510,7 @@ impl Cache {
             fronts,
             kept,
             clock: 0,
-            sought: None,
+            sought: SoughtName::none(alloc),
             stays: true,
         })
     }
