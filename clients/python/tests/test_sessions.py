@@ -90,9 +90,10 @@ class Sessions(FolderTest):
         path.chmod(0o755)
 
     def environment(self) -> dict[str, str]:
-        """The environment of the commands."""
+        """The environment of the commands. Their two streams come in order, as on a terminal."""
         own = {"PYTHONPATH": str(SOURCES), "XQS_SERVER": "./serve", "HOME": str(self.folder),
-               "XDG_STATE_HOME": str(self.folder / "state"), "COLUMNS": "100"}
+               "XDG_STATE_HOME": str(self.folder / "state"), "COLUMNS": "100",
+               "PYTHONUNBUFFERED": "1"}
         return {**os.environ, **own}
 
     def run_command(self, command: str, typed: str = "") -> str:
