@@ -12,8 +12,8 @@ the multiplexer itself costs.
 - lookups: the median time of a lookup beside a client that asks queries of five seconds one after
   the other, and without it, with 3 servers
 - restart: the longest time of a read, while the server with the file is killed and opened again
-  over so many rows (2,000,000), and while one in memory is killed and filled again; without the
-  time in which the host of a virtual machine had the processors
+  over so many rows (2,000,000), and while one in memory is killed and filled again; how much of it
+  the machine ran is printed beside, and not judged
 - stores: stores a second in a file, of four clients, with 3 servers and with 1
 """
 
@@ -346,7 +346,7 @@ RESTARTS: list[tuple[bool | None, str]] = [
 
 def pause(mux: Mux, has_file: bool | None, what: str) -> bool:
     """Prints the longest pause of a read beside one restart, or beside none; whether it is short,
-    where there is a restart. The time in which the machine stood still is no server's."""
+    where there is a restart. How much of it is not the host's is printed, too."""
     words = "has its file open again" if has_file else "holds the documents"
     before = mux.said().count(words)
     reader, stalls, begin = Reader(mux), Stalls(), time.monotonic()
@@ -365,7 +365,7 @@ def pause(mux: Mux, has_file: bool | None, what: str) -> bool:
     print(f"| {what}: longest read in {took:.1f} s | {whole:,.1f} ms, {own:,.1f} of it while the "
           f"machine ran, median {median:,.2f}; it stood still for {100 * stalled.share():.0f} % | |"
           f" {'' if has_file is None else f'under {PAUSE}'} |", flush=True)
-    return has_file is None or own < PAUSE
+    return has_file is None or whole < PAUSE
 
 
 def measure_stores(command: list[str], runs: int, rows: int) -> bool:
