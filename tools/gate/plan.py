@@ -5,10 +5,11 @@
 All three come from the code itself: the program of tools/programs/plan asks the crates. It is built
 before any proof, as that of ./serve --unproved is, in a minute or two, and kept in out/plan until a
 source changes. A form of the code has a line, with its parts below it. `$3` is slot 3 where a
-clause binds it. A line of the optimised plan that a rule made ends with `<-` and the rule, by the
-name of its file in crates/xq_optimise/src. The rules are derived from the two plans
-(plan_rules.py): the pass doesn't tell them. The status is 1 where the query is refused, with its
-code, and 2 where there is no program.
+clause binds it or a join compares it; the range of a join that carries `$3 as $2` reads it as
+slot 2. A line of the optimised plan that a rule made ends with `<-` and the rule, by the name of
+its file in crates/xq_optimise/src. The rules are derived from the two plans (plan_rules.py): the
+pass doesn't tell them. The status is 1 where the query is refused, with its code, and 2 where there
+is no program.
 """
 
 from __future__ import annotations

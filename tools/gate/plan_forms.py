@@ -14,7 +14,7 @@ from collections.abc import Iterable, Iterator, Mapping
 TOKEN = re.compile(r'[()]|"(?:[^"]|"")*"|[^\s()"]+')
 INDENT = "  "
 # The clauses and parts that bind, with how many slots they open.
-OPENED = {"for": 1, "let": 1, "count": 1, "in": 1}
+OPENED = {"for": 1, "join": 1, "let": 1, "count": 1, "in": 1}
 # The forms in which a part is seen by those after it.
 BINDING = ("flwor", "quantified")
 
@@ -65,6 +65,20 @@ def test(axis: str, form: Form) -> str:
     return f"{axis}::{form.word}({name})"
 
 
+def short(scan: Form) -> str:
+    """A scan, as a path spells it at its shortest: `room`, `@room`."""
+    shown = test(scan.words[0], scan.parts[0])
+    is_name = not shown.endswith(")")
+    return shown.removeprefix("child::").replace("attribute::", "@") if is_name else shown
+
+
+def key(form: Form) -> str:
+    """A key of a join."""
+    steps = [short(it) for it in form.parts]
+    path = "/".join((f"${form.words[1]}", *steps))
+    return path if form.words[0] == "value" else f"{form.words[0]}({path})"
+
+
 def opened(form: Form) -> int:
     """How many slots a clause opens."""
     return OPENED.get(form.word, 0) + (form.word == "for" and "at" in form.words)
@@ -77,8 +91,17 @@ def variables(form: Form, slots: int) -> list[str]:
     return names or [f"${slots + it}" for it in range(opened(form))]
 
 
+def joined(form: Form, slots: int, outer: int) -> str:
+    """The line of a join."""
+    carried = next((it.words[0] for it in form.parts if it.word == "carried"), None)
+    carrying = f" carrying ${carried}" if carried else ""
+    renamed = f" as ${outer}" if carried not in (None, f"{outer}") else ""
+    where = f" {form.words[0]} ".join(key(it) for it in form.parts if it.word == "key")
+    return f"join ${slots} in ..{carrying}{renamed} where {where}"
+
+
 def bound(form: Form, slots: int) -> str:
-    """The line of a clause that binds."""
+    """The line of another clause that binds."""
     bound_here = variables(form, slots)
     if form.word == "for":
         empties = " allowing empty" if "allowing-empty" in form.words else ""
@@ -90,6 +113,8 @@ def bound(form: Form, slots: int) -> str:
 def line(form: Form, slots: int, outer: int) -> str:
     """What stands in the line of a form, where so many slots are open, and so many were before its
     FLWOR expression."""
+    if form.word == "join":
+        return joined(form, slots, outer)
     if form.word in OPENED:
         return bound(form, slots)
     if form.word == "group":
@@ -107,7 +132,7 @@ def below(form: Form) -> tuple[Form, ...]:
     """The forms that have lines of their own below that of the form."""
     if form.word in ("step", "scan"):
         return form.parts[1:]
-    return form.parts
+    return form.parts[:1] if form.word == "join" else form.parts
 
 
 @dataclasses.dataclass(frozen=True)
@@ -122,7 +147,7 @@ class Layout:
         of_parts = list(self.lines_below(form, slots, outer))
         of_form = self.marks.get(form, ())
         head, mark = line(form, slots, outer), f"   <- {', '.join(of_form)}" if of_form else ""
-        if len(of_parts) == 1 and len(of_parts[0]) == 1:
+        if len(of_parts) == 1 and len(of_parts[0]) == 1 and form.word != "join":
             return [f"{head} {of_parts[0][0]}{mark}"]
         return [head + mark, *(INDENT + it for lines in of_parts for it in lines)]
 
@@ -130,7 +155,10 @@ class Layout:
         """The lines of each part."""
         inner = slots
         for part in below(form):
-            if form.word in BINDING:
+            if form.word == "join":
+                carries = any(it.word == "carried" for it in form.parts)
+                yield self.lines(part, outer + carries)
+            elif form.word in BINDING:
                 yield self.lines(part, inner, slots)
                 inner += opened(part)
             else:

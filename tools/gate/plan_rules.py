@@ -13,6 +13,7 @@ from collections.abc import Callable, Iterable, Sequence
 from tools.gate.plan_forms import Form
 
 RULES = {
+    "joins": "a `for` and the `where` after it are a `join`",
     "order": "an equality stands before clauses that it doesn't need",
     "positions": "`position()` stands first in a general comparison with a number",
     "predicates": "a conjunction in a predicate is as many predicates",
@@ -188,6 +189,30 @@ def of_scanned(before: Form, scan: Form, judging: Form) -> Marks | None:
     return None if found is None else [(judging, "scanned"), *found]
 
 
+def key_plan(key: Form) -> Form:
+    """The plan that a key of a join stands for."""
+    slot = Form("slot", key.words[1:])
+    path = Form("path", (), (slot, *key.parts)) if key.parts else slot
+    return path if key.words[0] == "value" else Form("call", key.words[:1], (path,))
+
+
+def with_start(range_: Form, slot: str) -> Form:
+    """The range of a join, from another slot."""
+    start = Form("slot", (slot,))
+    return Form("path", (), (start, *range_.parts[1:])) if range_.word == "path" else start
+
+
+def written_out(join: Form) -> tuple[Form, Form]:
+    """The `for` and the `where` that a join stands for."""
+    range_, *others = join.parts
+    for it in others:
+        if it.word == "carried":
+            range_ = with_start(range_, it.words[0])
+    left, right = (key_plan(it) for it in others if it.word == "key")
+    test = Form("chain", (), (left, Form("operand", join.words, (right,))))
+    return Form("for", (), (range_,)), Form("where", (), (test,))
+
+
 def of_where(before: Form, left: Sequence[Form]) -> tuple[list[Form], Marks] | None:
     """The `where` clauses among these that stand for one."""
     whole = assigned([before], left)
@@ -198,7 +223,7 @@ def of_where(before: Form, left: Sequence[Form]) -> tuple[list[Form], Marks] | N
 
 
 def of_clauses(before: Sequence[Form], after: Sequence[Form]) -> Marks | None:
-    """The rules among clauses."""
+    """The rules among clauses, in which the joins are written out."""
     tests = [it for it in after if it.word == "where"]
     others = collections.deque(it for it in after if it.word != "where")
     places, marks = list[Form](), Marks()
@@ -218,9 +243,17 @@ def of_clauses(before: Sequence[Form], after: Sequence[Form]) -> Marks | None:
 
 def of_flwor(before: Form, after: Form) -> Marks | None:
     """The rules in a FLWOR expression."""
-    found = of_clauses(before.parts[:-1], after.parts[:-1])
+    clauses, of_join = list[Form](), dict[Form, Form]()
+    for clause in after.parts[:-1]:
+        written = written_out(clause) if clause.word == "join" else (clause,)
+        clauses += written
+        of_join |= dict.fromkeys(written, clause) if clause.word == "join" else {}
+    found = of_clauses(before.parts[:-1], clauses)
     result = derived(before.parts[-1], after.parts[-1])
-    return None if found is None or result is None else [*found, *result]
+    if found is None or result is None:
+        return None
+    joins = [(it, "joins") for it in dict.fromkeys(of_join.values())]
+    return [*((of_join.get(it, it), rule) for it, rule in found), *joins, *result]
 
 
 OF_FORMS: dict[str, Callable[[Form, Form], Marks | None]] = {

@@ -16,12 +16,14 @@ from tools.rows import tables
 
 # Files of the optimiser that are no rule: the pass, and what its rules ask.
 NO_RULES = {"held", "kinds", "lib", "lists", "scopes", "sure", "walk"}
-FORM = ('(flwor (for at (call doc (string "a b"))) (for (path (slot 0) (scan child (element))))'
+FORM = ('(flwor (for at (call doc (string "a b"))) (join eq (path (slot 0) (scan child (element)))'
+        ' (carried 0) (key value 2 (scan child (element "a")) (scan attribute (attribute "id")))'
+        ' (key string 1 (scan child (text))))'
         ' (group 0 2) (return (sequence (slot 2) (string "x""y&amp;"))))')
 LINES = """\
 flwor
   for $5 at $6 in call doc string "a b"
-  for $7 in   <- order
+  join $7 in .. carrying $0 as $5 where $2/a/@id eq string($1/child::text())   <- joins
     path
       slot 0
       scan child::*
@@ -46,14 +48,17 @@ ID, B = 'attribute (attribute "id")', 'child (element "b")'
 EQUAL = f"(chain {path(1, ID)} (operand = {path(0, ID)}))"
 TITLE = path(1, 'child (element "t")')
 RANGE = f"(for {path(0, B)})"
+JOIN = f"(join = {path(0, B)} (carried 0) (key value 1 (scan {ID})) (key value 0 (scan {ID})))"
 TEST = f'(chain (step {ID}) (operand = (string "1")))'
 LAST = "(return (slot 1))"
 # What a form becomes, and the rules that make it so.
 DERIVED = (
     ("(chain (integer 2) (operand gt (call position)))",
      "(chain (call position) (operand < (integer 2)))", ["positions"]),
+    (f"(flwor {RANGE} {RANGE} (where {EQUAL}) {LAST})", f"(flwor {RANGE} {JOIN} {LAST})",
+     ["joins"]),
     (f"(flwor {RANGE} {RANGE} (where (and {TITLE} {EQUAL})) {LAST})",
-     f"(flwor {RANGE} {RANGE} (where {EQUAL}) (where {TITLE}) {LAST})", ["order", "wheres"]),
+     f"(flwor {RANGE} {JOIN} (where {TITLE}) {LAST})", ["joins", "order", "wheres"]),
     (f"(flwor {RANGE} (where {TITLE}) (where {EQUAL}) {LAST})",
      f"(flwor {RANGE} (where {EQUAL}) (where {TITLE}) {LAST})", ["order"]),
     (step(f"(and {TEST} (context-item))"), step(TEST, "(context-item)"), ["predicates"]),
@@ -64,6 +69,7 @@ DERIVED = (
 )
 # Of each rule a query to which it applies.
 QUERIES = {
+    "joins": 'for $a in doc("x")//a, $b in doc("x")//b where $b/@id = $a/@id return $b',
     "order": 'for $a in doc("x")//a let $c := $a/c where $c where $a/@id = "1" return $a',
     "positions": 'doc("x")/a[3 eq position()]',
     "predicates": 'doc("x")/a[b and position() < 3]',
@@ -104,7 +110,7 @@ class Forms(unittest.TestCase):
 
     def test_each_form_has_a_line(self) -> None:
         plan_of_flwor = form(FORM)
-        layout = Layout({plan_of_flwor.parts[1]: ["order"]})
+        layout = Layout({plan_of_flwor.parts[1]: ["joins"]})
         self.assertEqual("\n".join(layout.lines(plan_of_flwor, 5)), LINES)
 
     def test_tests_of_kinds_and_names(self) -> None:

@@ -1,5 +1,6 @@
 pub mod Counted
 pub mod Loops
+pub mod JoinLaws
 pub mod NextValues
 pub mod Quantifying
 pub mod QuantifiedTurns
@@ -7,7 +8,6 @@ pub mod Steps
 pub mod PositionalPredicates
 pub mod DocumentScans
 pub mod FirstScans
-pub mod Joining
 pub mod TextSteps
 pub mod Telling
 pub mod Choosing

@@ -1,7 +1,6 @@
 //! The clauses of a FLWOR expression, each for all tuples before the next (XQuery 3.1, section
 //! 3.12).
-ghost use Rattle.std.specs.Prelude.{◌≡◌, [], ◌∷◌, ◌++◌, map, length, IfOk, IfErr, IfSome, IsSome};
-ghost use Rattle.std.specs.Option.{option_copied};
+ghost use Rattle.std.specs.Prelude.{◌≡◌, ◌<◌, [], ◌∷◌, ◌++◌, map, drop, length, IfOk, IfErr};
 ghost use Rattle.std.proofs.Common.{suc};
 ghost use Rattle.xq_trees.specs.Items.{ItemView, Value as AtomView, item_view, item_views};
 ghost use Rattle.xq_trees.specs.Tuples.{Tuple, expanded};
@@ -10,20 +9,19 @@ ghost use Rattle.xq_tuples.specs.Views.{values_of};
 ghost use Rattle.xq_meaning.specs.Doing.{in_turn, one_more, more, for_each, collected};
 ghost use Rattle.xq_meaning.specs.Forms as Forms;
 ghost use Rattle.xq_meaning.specs.Readings.{items_at, AreIn};
-ghost use Rattle.xq_meaning.specs.PlanMeaning.{plan_mean, plan_clause_mean, at_tuple as meant_at, next_clause};
+ghost use Rattle.xq_meaning.specs.PlanMeaning.{plan_mean, plan_clause_mean, at_tuple as meant_at, at_carried, join_tuples as join_tuples_lem, next_clause};
 ghost use Rattle.xq_eval.specs.private.Keys.{keys_at};
 ghost use Rattle.xq_operators.specs.Views.{tuple_at, tuples_at, lists_of, order_specs, frame_at, FrameIn, TupleIn, TuplesIn, Goes, GivesSequence, GivesTuples};
 ghost use Rattle.xq_eval.specs.private.Results.{GivesLists, GivesTests, GivesKey, GivesKeys};
-ghost use Rattle.xq_eval.specs.private.Joining.{GivesMatched};
 
 use crate::evaluation::{evaluate, next_part, tested};
-use sqlite_items::at;
+use crate::pairs::{carried_slots, is_steady, keep_equal, with_equal};
 use std::alloc::Global;
 use xq_atoms::{Fault, Want};
 use xq_expressions::{AllowingEmpty, OrderModifier};
-use xq_joins::{atom_of, join_at, matching};
-use xq_meaning::{Plan, PlanClause};
-use xq_operators::{EvalContext, group, into_atoms, joined, order_by_keys, rebind, refill};
+use xq_joins::atom_of;
+use xq_meaning::{Join, Plan, PlanClause};
+use xq_operators::{EvalContext, group, into_atoms, order_by_keys, rebind, refill};
 use xq_sources::TreeStore;
 use xq_trees::{Item, Items};
 use xq_tuples::{Key, SlotValue, Tuples};
@@ -43,56 +41,10 @@ pub fn clause_list<W: TreeStore>(
         (map plan_clause_mean clauses.now) (W.forest world.old)) (W.forest world.new) result }
 {
     let mut tuples = Tuples::one(alloc)?;
-    // Whether the clause was taken with the one before it.
-    let mut is_taken = false;
-    for (index, clause) in clauses.iter().enumerate() {
-        if is_taken {
-            is_taken = false;
-            continue;
-        }
-        let next = at(clauses, index + 1);
-        if let Some(lists) = matching_lists(alloc, world, frame, &tuples, clause, next)? {
-            tuples = tuples.expand(lists, false)?;
-            is_taken = true;
-            continue;
-        }
+    for clause in clauses {
         tuples = next_tuples(alloc, world, frame, tuples, clause)?;
     }
     Ok(tuples)
-}
-
-/// Where a `for` and the clause after it are a join, the items that both give for each tuple; what
-/// the `for` ranges over is evaluated once then. None where they aren't one.
-#[cycle(eval)]
-fn matching_lists<W: TreeStore>(
-    alloc: Global,
-    world: &mut W,
-    frame: EvalContext<'_>,
-    tuples: &Tuples,
-    clause: &PlanClause,
-    next: Option<&PlanClause>,
-) -> Result<Option<Vec<Items>>, Fault>
-    ensures goes { Goes (W.forest world.old) (W.forest world.new) (W.is_clean world.old)
-        (W.is_clean world.new) }
-    ensures gives { W.is_clean world.new → FrameIn (W.forest world.old) frame.entry
-        → TuplesIn (W.forest world.old) tuples.now
-        → GivesMatched (plan_clause_mean clause.now) (option_copied next.entry)
-        (frame_at (W.forest world.old) frame.entry) tuples.now (W.forest world.old)
-        (W.forest world.new) result }
-    ensures long { IfOk result (λ found. IfSome found (λ lists.
-        length lists.items ≡ length tuples.now)) }
-    ensures followed { IfOk result (λ found. IfSome found (λ _. IsSome (option_copied
-        next.entry))) }
-{
-    let PlanClause::For(empties, at, source) = clause else {
-        return Ok(None);
-    };
-    let Some(join) = join_at(*empties, *at, source, next, frame.slots, tuples) else {
-        return Ok(None);
-    };
-    let slots = joined(alloc, frame.slots, tuples.tuple(0))?;
-    let items = at_tuple(alloc, world, frame, &slots, source)?;
-    Ok(matching(alloc, world, join, frame.slots, tuples, &items)?)
 }
 
 /// The tuples after one clause more.
@@ -116,6 +68,7 @@ fn next_tuples<W: TreeStore>(
             let lists = values(alloc, world, frame, &tuples, part)?;
             Ok(expand(tuples, lists, *empties, *at)?)
         }
+        PlanClause::Join(range, join) => join_tuples(alloc, world, frame, tuples, range, join),
         PlanClause::Let(part) => {
             let lists = values(alloc, world, frame, &tuples, part)?;
             Ok(tuples.bind(lists)?)
@@ -133,6 +86,71 @@ fn next_tuples<W: TreeStore>(
         PlanClause::Count => Ok(tuples.number()?),
         PlanClause::Refused(code) => Err(Fault::Code(*code)),
     }
+}
+
+/// The tuples after a join. The range is evaluated once where it reads the same at each tuple, and
+/// makes no tree.
+#[cycle(eval)]
+fn join_tuples<W: TreeStore>(
+    alloc: Global,
+    world: &mut W,
+    frame: EvalContext<'_>,
+    tuples: Tuples,
+    range: &Plan,
+    join: &Join,
+) -> Result<Tuples, Fault>
+    ensures goes { Goes (W.forest world.old) (W.forest world.new) (W.is_clean world.old)
+        (W.is_clean world.new) }
+    ensures gives { W.is_clean world.new → FrameIn (W.forest world.old) frame.entry
+        → TuplesIn (W.forest world.old) tuples
+        → GivesTuples (join_tuples_lem (plan_mean range.now) join.now
+        (frame_at (W.forest world.old) frame.entry) (tuples_at (W.forest world.old) tuples)
+        (W.forest world.old)) (W.forest world.new) result }
+{
+    if tuples.len() == 0 {
+        return Ok(tuples);
+    }
+    let trees = world.trees();
+    let slots = carried_slots(alloc, join, frame.slots, tuples.tuple(0))?;
+    let items = at_tuple(alloc, world, frame, &slots, range)?;
+    if world.trees() == trees && is_steady(join, frame.slots, &tuples) {
+        return with_equal(alloc, world, frame, join, tuples, items);
+    }
+    let lists = later_ranges(alloc, world, frame, &tuples, range, join, items)?;
+    let pairs = tuples.expand(lists, false)?;
+    keep_equal(alloc, world, frame, join, pairs)
+}
+
+/// What the range of a join gives at each tuple, where this is what it gives at the first.
+#[cycle(eval)]
+fn later_ranges<W: TreeStore>(
+    alloc: Global,
+    world: &mut W,
+    frame: EvalContext<'_>,
+    tuples: &Tuples,
+    range: &Plan,
+    join: &Join,
+    first: Items,
+) -> Result<Vec<Items>, Fault>
+    requires { 0 < length tuples.now }
+    ensures goes { Goes (W.forest world.old) (W.forest world.new) (W.is_clean world.old)
+        (W.is_clean world.new) }
+    ensures gives { W.is_clean world.new → FrameIn (W.forest world.old) frame.entry
+        → TuplesIn (W.forest world.old) tuples.now → AreIn (W.forest world.old) (item_views first)
+        → GivesLists (in_turn (one_more (λ t. plan_mean range.now (at_carried join.now
+        (frame_at (W.forest world.old) frame.entry) t)))
+        (items_at (W.forest world.old) (item_views first) ∷ [])
+        (drop 1 (tuples_at (W.forest world.old) tuples.now)) (W.forest world.old))
+        (W.forest world.new) result }
+    ensures long { IfOk result (λ lists. length lists.items ≡ length tuples.now) }
+{
+    let mut lists = Vec::with_capacity(alloc, tuples.len())?;
+    lists.push(first)?;
+    for index in 1..tuples.len() {
+        let slots = carried_slots(alloc, join, frame.slots, tuples.tuple(index))?;
+        lists = next_value(alloc, world, frame, lists, &slots, range)?;
+    }
+    Ok(lists)
 }
 
 /// Each tuple once for each item of its list; where empty lists are allowed, never none.

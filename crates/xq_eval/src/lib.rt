@@ -11,6 +11,7 @@ mod evaluation;
 mod expressions;
 mod integers;
 mod numbers;
+mod pairs;
 mod paths;
 mod positions;
 mod quantified;

@@ -1,33 +1,33 @@
--- What a `for` and a `where` that are a join give.
+-- What a join gives.
 use Rattle.std.proofs.Common.{◌≡◌, ℕ, zero, suc, ◌+◌, ◌<◌, List, [], ◌∷◌, ◌++◌, map, filter, length, Bool, true, false, Option, Some, None, Ok, refl, sym, ◌∙◌, ap, subst, arith, append_assoc}
 use Rattle.std.specs.Prelude.{if◌then◌else◌}
 use Rattle.std.specs.List.{AllByRecursion, enumerate_from, zip}
 use Rattle.std.proofs.lemmas.List.{map-append, append-nil}
 use Rattle.std.proofs.lemmas.List.Concat.{flat_map-cons}
 use Rattle.xq_atoms.specs.Atom.{Atomic}
-use Rattle.xq_expressions.specs.declared.operators.AllowingEmpty.{AllowingEmpty}
 use Rattle.xq_expressions.specs.declared.operators.AllowingEmpty.TheVariants as allowing
+use Rattle.xq_trees.specs.declared.items.Node.{Node as Spot}
 use Rattle.xq_trees.specs.Items.{ItemView, Place as NodeAt, Value}
 use Rattle.xq_trees.specs.Tree.{Tree}
 use Rattle.xq_trees.specs.Tuples.{Tuple, expanded, item_values, satisfying, with_items, value_at}
 use Rattle.xq_trees.proofs.Lists.{all_append, all_filter, all_weaker}
-use Rattle.xq_meaning.specs.declared.plans.Plan.{Plan}
-use Rattle.xq_meaning.specs.declared.plans.PlanClause.{PlanClause}
-use Rattle.xq_meaning.specs.declared.plans.PlanClause.TheVariants as clause
-use Rattle.xq_meaning.specs.Doing.{Doing, ◌>>=◌, go_on, give, in_turn, one_more, for_each}
+use Rattle.xq_meaning.specs.declared.joins.Equality.{Equality}
+use Rattle.xq_meaning.specs.declared.joins.Join.{Join}
+use Rattle.xq_meaning.specs.declared.joins.JoinKey.{JoinKey}
+use Rattle.xq_meaning.specs.Doing.{Doing, go_on, give, in_turn, one_more, for_each}
 use Rattle.xq_meaning.specs.Forms as Forms
-use Rattle.xq_meaning.specs.Items.{Node, Atom}
-use Rattle.xq_meaning.specs.PlanMeaning.{Frame, at_tuple, plan_mean, plan_clause_mean}
+use Rattle.xq_meaning.specs.Items.{Item, Node, Atom}
+use Rattle.xq_meaning.specs.PlanMeaning.{Frame, Meaning, at_tuple, keys_equal}
 use Rattle.xq_meaning.specs.Readings.{node_at, item_at, items_at, IsIn, AreIn}
 use Rattle.xq_meaning.proofs.PathLemmas.{map-map, filter-map}
-use Rattle.xq_meaning.proofs.PlanEquations.{clause-For, clause-Where}
 use Rattle.xq_operators.specs.Views.{tuple_at, tuples_at, TupleIn}
-use Rattle.xq_operators.proofs.Growth.{map_same}
 use Rattle.xq_operators.proofs.Natural.{expanded_natural, kept_natural}
 use Rattle.xq_operators.proofs.Streams.{value_read}
-use Rattle.xq_joins.specs.declared.joins.Join.{Join}
-use Rattle.xq_joins.specs.Joins.{start_value, IsFrom, IsTest, Fits, first_of, AreJoin, matched, all_matched}
-use Rattle.xq_joins.specs.Keys.{IsNode, places_among, texts_from, meet}
+use Rattle.xq_joins.specs.Joins.{all_pairs, Matches}
+use Rattle.xq_joins.specs.Keys.{IsNode, places_among, meet}
+use Rattle.xq_joins.specs.private.JoinKeys.{join_texts, IsTold, AreSides}
+use Rattle.xq_joins.specs.private.Tables.{matched}
+use Rattle.xq_joins.proofs.JoinKeys.{sides_meet}
 
 -- # The results of each, where each constructs nothing
 
@@ -96,30 +96,29 @@ module _ {X : Type 0} (atom : Atomic → X) where
       subst (AllByRecursion P) (sym (expanded_first t ts xs (map (λ t. xs) ts)))
       (all_append P (map (with_one t) xs) (expanded atom false false ts (map (λ t. xs) ts)) (all_with P t xs h.0) (all_expanded P xs ts h.1))
 
--- # The two clauses
+-- # Each tuple with the same items, and those of them that pass a test
 
-module _ (frame : Frame) (f : List Tree) (ts : List (Tuple ItemView)) where
-  -- where the plan gives the same items at each tuple, and the test the truth of each tuple with an
-  -- item, they give each tuple with those of the items at which it is true, in order
-  pub joined : (source test : Plan) (xs : List ItemView) (q : Tuple ItemView → Bool)
-      → AllByRecursion (λ t. plan_mean source (at_tuple frame (tuple_at f t)) f ≡ (Ok (items_at f xs), f)) ts
-      → AllByRecursion (λ t. AllByRecursion (λ x. Forms.tested (plan_mean test) (at_tuple frame (tuple_at f (with_one Value t x))) f ≡ (Ok (q (with_one Value t x)), f)) xs) ts
-      → (plan_clause_mean (clause.For allowing.No false source) frame (tuples_at f ts) >>= plan_clause_mean (clause.Where test) frame) f
-      ≡ (Ok (tuples_at f (expanded Value false false ts (map (λ t. filter (λ x. q (with_one Value t x)) xs) ts))), f)
-  joined source test xs q same tests =
-      let es = expanded Value false false ts (map (λ t. xs) ts) in
-      let kept = map (λ t. filter (λ x. q (with_one Value t x)) xs) ts in
-      let first : plan_clause_mean (clause.For allowing.No false source) frame (tuples_at f ts) f ≡ (Ok (tuples_at f es), f) =
-      ap (λ m. m frame (tuples_at f ts) f) (clause-For allowing.No false source)
-      ∙ ap (λ o. go_on o (λ lists. give (expanded Atom false false (tuples_at f ts) lists))) (each_is (λ t. plan_mean source (at_tuple frame t)) (tuple_at f) (λ t. items_at f xs) f ts same)
+module _ (at : Tuple Item → Frame) (f : List Tree) (ts : List (Tuple ItemView)) where
+  -- where a part gives the same items at each tuple, a `for` gives each tuple with each of them
+  pub pairs_given : (m : Meaning) (xs : List ItemView)
+      → AllByRecursion (λ t. m (at (tuple_at f t)) f ≡ (Ok (items_at f xs), f)) ts
+      → Forms.for_tuples allowing.No false m at (tuples_at f ts) f ≡ (Ok (tuples_at f (all_pairs ts xs)), f)
+  pairs_given m xs same =
+      ap (λ o. go_on o (λ lists. give (expanded Atom false false (tuples_at f ts) lists))) (each_is (λ t. m (at t)) (tuple_at f) (λ t. items_at f xs) f ts same)
       ∙ ap (λ lists. (Ok (expanded Atom false false (tuples_at f ts) lists), f)) (sym (map-map (items_at f) (λ t. xs) ts))
-      ∙ ap (λ l. (Ok l, f)) (sym (expanded_natural (item_at f) Value Atom (λ a. refl) false false ts (map (λ t. xs) ts))) in
-      let second : plan_clause_mean (clause.Where test) frame (tuples_at f es) f ≡ (Ok (tuples_at f (expanded Value false false ts kept)), f) =
-      ap (λ m. m frame (tuples_at f es) f) (clause-Where test)
-      ∙ ap (λ o. go_on o (λ bs. give (satisfying (tuples_at f es) bs))) (each_is (λ t. Forms.tested (plan_mean test) (at_tuple frame t)) (tuple_at f) q f es
-      (all_expanded Value (λ e. Forms.tested (plan_mean test) (at_tuple frame (tuple_at f e)) f ≡ (Ok (q e), f)) xs ts tests))
-      ∙ ap (λ l. (Ok l, f)) (sym (kept_natural (tuple_at f) es (map q es)) ∙ ap (tuples_at f) (satisfying_is q es ∙ expanded_filter Value q xs ts)) in
-      ap (λ o. go_on o (plan_clause_mean (clause.Where test) frame)) first ∙ second
+      ∙ ap (λ l. (Ok l, f)) (sym (expanded_natural (item_at f) Value Atom (λ a. refl) false false ts (map (λ t. xs) ts)))
+
+  -- where the test has the truth of each tuple with an item, a `where` gives each tuple with those
+  -- of the items at which it is true, in order
+  pub kept_of : (m : Meaning) (xs : List ItemView) (q : Tuple ItemView → Bool)
+      → AllByRecursion (λ t. AllByRecursion (λ x. Forms.tested m (at (tuple_at f (with_one Value t x))) f ≡ (Ok (q (with_one Value t x)), f)) xs) ts
+      → Forms.where_tuples m at (tuples_at f (all_pairs ts xs)) f
+      ≡ (Ok (tuples_at f (expanded Value false false ts (map (λ t. filter (λ x. q (with_one Value t x)) xs) ts))), f)
+  kept_of m xs q tests =
+      let es = all_pairs ts xs in
+      ap (λ o. go_on o (λ bs. give (satisfying (tuples_at f es) bs))) (each_is (λ t. Forms.tested m (at t)) (tuple_at f) q f es
+      (all_expanded Value (λ e. Forms.tested m (at (tuple_at f e)) f ≡ (Ok (q e), f)) xs ts tests))
+      ∙ ap (λ l. (Ok l, f)) (sym (kept_natural (tuple_at f) es (map q es)) ∙ ap (tuples_at f) (satisfying_is q es ∙ expanded_filter Value q xs ts))
 
 -- # Values of slots
 
@@ -132,84 +131,84 @@ pub value_last : {X : Type 0} (slots : Tuple X) (v : List X) → value_at (lengt
 value_last [] v = refl
 value_last (w ∷ ws) v = value_last ws v
 
-pub nodes_read : (f : List Tree) (xs : List ItemView) → AllByRecursion IsNode xs → items_at f xs ≡ map Node (places_among f xs)
-nodes_read f [] h = refl
-nodes_read f (NodeAt n ∷ xs) h = ap (λ l. Node (node_at f n) ∷ l) (nodes_read f xs h.1)
-nodes_read f (Value a ∷ xs) h = absurd h.0
-
 pub filter_same : {X : Type 0} (p q : X → Bool) (xs : List X) → ((x : X) → p x ≡ q x) → filter p xs ≡ filter q xs
 filter_same p q [] same = refl
 filter_same p q (x ∷ xs) same = (λ i. if same x i then x ∷ filter_same p q xs same i else filter_same p q xs same i)
 
 -- # What a join gives
 
-module _ (fr : Frame) (f : List Tree) (outside : Tuple ItemView) (env : fr.env ≡ tuple_at f outside) (join : Join) where
-  slots_at : (t : Tuple ItemView) → fr.env ++ tuple_at f t ≡ tuple_at f (outside ++ t)
-  slots_at t = ap (λ e. e ++ tuple_at f t) env ∙ sym (map-append (items_at f) outside t)
+module _ (equality : Equality) (f : List Tree) (outside : Tuple ItemView) (join : Join) (item tuple : JoinKey) (sides : AreSides join item tuple) (comparing : join.equality ≡ equality) where
+  -- with an item more
+  item_slot : (t : Tuple ItemView) → length (outside ++ t) ≡ item.slot → (x : ItemView) → value_at item.slot (outside ++ with_one Value t x) ≡ x ∷ []
+  item_slot t next x =
+      ap (value_at item.slot) (sym (append_assoc outside t ((x ∷ []) ∷ [])))
+      ∙ ap (λ n. value_at n ((outside ++ t) ++ (x ∷ []) ∷ [])) (sym next)
+      ∙ value_last (outside ++ t) (x ∷ [])
 
-  slot_at : (n : ℕ) (t : Tuple ItemView) → value_at n (fr.env ++ tuple_at f t) ≡ items_at f (value_at n (outside ++ t))
-  slot_at n t = ap (value_at n) (slots_at t) ∙ value_read f n (outside ++ t)
+  tuple_slot : (t : Tuple ItemView) → length (outside ++ t) ≡ item.slot → (x : ItemView) → value_at tuple.slot (outside ++ with_one Value t x) ≡ value_at tuple.slot (outside ++ t)
+  tuple_slot t next x =
+      let earlier = sides.below in
+      ap (value_at tuple.slot) (sym (append_assoc outside t ((x ∷ []) ∷ [])))
+      ∙ value_front tuple.slot (outside ++ t) ((x ∷ []) ∷ []) (omega (arith, next, earlier))
 
-  start_at : (start : Option ℕ) (t : Tuple ItemView) → start_value start (fr.env ++ tuple_at f t) ≡ items_at f (start_value start (outside ++ t))
-  start_at None t = refl
-  start_at (Some n) t = slot_at n t
+  module _ (fr : Frame) (env : fr.env ≡ tuple_at f outside) where
+    slot_at : (n : ℕ) (t : Tuple ItemView) → value_at n (fr.env ++ tuple_at f t) ≡ items_at f (value_at n (outside ++ t))
+    slot_at n t = ap (value_at n) (ap (λ e. e ++ tuple_at f t) env ∙ sym (map-append (items_at f) outside t)) ∙ value_read f n (outside ++ t)
 
-  -- the texts of both keys meet
-  abbrev keys_meet : Tuple ItemView → Bool
-  keys_meet e = meet (texts_from f join.item.steps.now (value_at join.item.slot (outside ++ e))) (texts_from f join.tuple.steps.now (value_at join.tuple.slot (outside ++ e)))
+    -- the texts of both keys, at the tuple and of the item
+    abbrev keys_meet : Tuple ItemView → Bool
+    keys_meet e = meet (join_texts f item (value_at item.slot (outside ++ e))) (join_texts f tuple (value_at tuple.slot (outside ++ e)))
 
-  module _ (start : Option ℕ) (first t : Tuple ItemView) (fits : Fits join start outside first t) where
-    -- with an item more
-    item_slot : (x : ItemView) → value_at join.item.slot (outside ++ with_one Value t x) ≡ x ∷ []
-    item_slot x =
-        ap (value_at join.item.slot) (sym (append_assoc outside t ((x ∷ []) ∷ [])))
-        ∙ ap (λ n. value_at n ((outside ++ t) ++ (x ∷ []) ∷ [])) (sym fits.next)
-        ∙ value_last (outside ++ t) (x ∷ [])
-
-    tuple_slot : join.tuple.slot < join.item.slot → (x : ItemView) → value_at join.tuple.slot (outside ++ with_one Value t x) ≡ value_at join.tuple.slot (outside ++ t)
-    tuple_slot earlier x =
-        let next = fits.next in
-        ap (value_at join.tuple.slot) (sym (append_assoc outside t ((x ∷ []) ∷ [])))
-        ∙ value_front join.tuple.slot (outside ++ t) ((x ∷ []) ∷ []) (omega (arith, next, earlier))
-
-    meet_at : join.tuple.slot < join.item.slot → (x : ItemView) → keys_meet (with_one Value t x) ≡ meet (texts_from f join.item.steps.now (x ∷ [])) (texts_from f join.tuple.steps.now (value_at join.tuple.slot (outside ++ t)))
-    meet_at earlier x = (λ i. meet (texts_from f join.item.steps.now (item_slot x i)) (texts_from f join.tuple.steps.now (tuple_slot earlier x i)))
-
-    test_at : (test : Plan) → IsTest join test → join.tuple.slot < join.item.slot → (x : ItemView) → IsNode x
-        → Forms.tested (plan_mean test) (at_tuple fr (tuple_at f (with_one Value t x))) f ≡ (Ok (keys_meet (with_one Value t x)), f)
-    test_at test is earlier x node =
+    test_at : (t : Tuple ItemView) → length (outside ++ t) ≡ item.slot → IsTold equality f tuple (value_at tuple.slot (outside ++ t))
+        → (x : ItemView) → IsTold equality f item (x ∷ [])
+        → Forms.tested (keys_equal join) (at_tuple fr (tuple_at f (with_one Value t x))) f ≡ (Ok (keys_meet (with_one Value t x)), f)
+    test_at t next told x one =
         let e = with_one Value t x in
-        let item = value_at join.item.slot (outside ++ e) in
-        let other = value_at join.tuple.slot (outside ++ e) in
-        let item_nodes = subst (AllByRecursion IsNode) (sym (item_slot x)) (node, tt) in
-        let other_nodes = subst (AllByRecursion IsNode) (sym (tuple_slot earlier x)) fits.nodes in
-        is.holds (at_tuple fr (tuple_at f e)) f (places_among f item) (places_among f other)
-        (slot_at join.item.slot e ∙ nodes_read f item item_nodes) (slot_at join.tuple.slot e ∙ nodes_read f other other_nodes)
+        sides_meet equality f join item tuple sides comparing (at_tuple fr (tuple_at f e)) (value_at item.slot (outside ++ e)) (value_at tuple.slot (outside ++ e))
+        (slot_at item.slot e) (slot_at tuple.slot e)
+        (subst (IsTold equality f item) (sym (item_slot t next x)) one) (subst (IsTold equality f tuple) (sym (tuple_slot t next x)) told)
 
-    same_at : (source : Plan) → IsFrom start source → plan_mean source (at_tuple fr (tuple_at f t)) f ≡ plan_mean source (at_tuple fr (tuple_at f first)) f
-    same_at source is =
-        is.same fr (fr.env ++ tuple_at f t) (fr.env ++ tuple_at f first) f
-        (start_at start t ∙ ap (items_at f) fits.steady ∙ sym (start_at start first))
+  meet_at : (t : Tuple ItemView) → length (outside ++ t) ≡ item.slot → (x : ItemView)
+      → meet (join_texts f item (value_at item.slot (outside ++ with_one Value t x))) (join_texts f tuple (value_at tuple.slot (outside ++ with_one Value t x)))
+      ≡ meet (join_texts f item (x ∷ [])) (join_texts f tuple (value_at tuple.slot (outside ++ t)))
+  meet_at t next x = (λ i. meet (join_texts f item (item_slot t next x i)) (join_texts f tuple (tuple_slot t next x i)))
 
-  -- each tuple with those of the items that match, where the plan gives them at the first
-  pub join_gives : (empties : AllowingEmpty) (at : Bool) (source : Plan) (next : Option PlanClause) (ts : List (Tuple ItemView)) (xs : List ItemView)
-      → (are : AreJoin empties at source next outside ts join)
-      → plan_mean source (at_tuple fr (tuple_at f (first_of ts))) f ≡ (Ok (items_at f xs), f) → AllByRecursion IsNode xs
-      → (plan_clause_mean (clause.For empties at source) fr (tuples_at f ts) >>= plan_clause_mean (clause.Where are.test) fr) f
-      ≡ (Ok (tuples_at f (expanded Value false false ts (all_matched f join outside ts xs))), f)
-  join_gives empties at source next ts xs are value nodes =
-      let F = Fits join are.start outside (first_of ts) in
-      ap (λ e. (plan_clause_mean (clause.For e at source) fr (tuples_at f ts) >>= plan_clause_mean (clause.Where are.test) fr) f) are.no_empty
-      ∙ ap (λ b. (plan_clause_mean (clause.For allowing.No b source) fr (tuples_at f ts) >>= plan_clause_mean (clause.Where are.test) fr) f) are.no_position
-      ∙ joined fr f ts source are.test xs keys_meet
-      (all_weaker F (λ t. plan_mean source (at_tuple fr (tuple_at f t)) f ≡ (Ok (items_at f xs), f)) (λ t h. same_at are.start (first_of ts) t h source are.is_from ∙ value) ts are.fit)
-      (all_weaker F (λ t. AllByRecursion (λ x. Forms.tested (plan_mean are.test) (at_tuple fr (tuple_at f (with_one Value t x))) f ≡ (Ok (keys_meet (with_one Value t x)), f)) xs)
-      (λ t h. all_weaker IsNode (λ x. Forms.tested (plan_mean are.test) (at_tuple fr (tuple_at f (with_one Value t x))) f ≡ (Ok (keys_meet (with_one Value t x)), f)) (λ x node. test_at are.start (first_of ts) t h are.test are.is_test are.earlier x node) xs nodes) ts are.fit)
-      ∙ ap (λ lists. (Ok (tuples_at f (expanded Value false false ts lists)), f))
-      (map_same (λ t. filter (λ x. keys_meet (with_one Value t x)) xs) (λ t. matched f join (outside ++ t) xs) F
-      (λ t h. filter_same (λ x. keys_meet (with_one Value t x)) _ xs (λ x. meet_at are.start (first_of ts) t h are.earlier x)) ts are.fit)
+  abbrev found_at : List ItemView → Tuple ItemView → List ItemView
+  found_at xs t = matched f item tuple (value_at tuple.slot (outside ++ t)) xs
 
-  -- of the items' nodes none is another than those of the trees
-  pub matched_in : (ts : List (Tuple ItemView)) (xs : List ItemView) → AreIn f xs → TupleIn f (all_matched f join outside ts xs)
-  matched_in [] xs h = tt
-  matched_in (t ∷ ts) xs h = (all_filter (IsIn f) _ xs h, matched_in ts xs h)
+  found_in : (ts : List (Tuple ItemView)) (xs : List ItemView) → AreIn f xs → TupleIn f (map (found_at xs) ts)
+  found_in [] xs h = tt
+  found_in (t ∷ ts) xs h = (all_filter (IsIn f) _ xs h, found_in ts xs h)
+
+  all_tests : (fr : Frame) (env : fr.env ≡ tuple_at f outside) (ts : List (Tuple ItemView)) (xs : List ItemView)
+      → AllByRecursion (λ t. length (outside ++ t) ≡ item.slot) ts → AllByRecursion (λ t. IsTold equality f tuple (value_at tuple.slot (outside ++ t))) ts
+      → AllByRecursion (λ x. IsTold equality f item (x ∷ [])) xs
+      → AllByRecursion (λ t. AllByRecursion (λ x. Forms.tested (keys_equal join) (at_tuple fr (tuple_at f (with_one Value t x))) f ≡ (Ok (keys_meet fr env (with_one Value t x)), f)) xs) ts
+  all_tests fr env [] xs next told ones = tt
+  all_tests fr env (t ∷ ts) xs next told ones = (
+    all_weaker (λ x. IsTold equality f item (x ∷ [])) _ (λ x one. test_at fr env t next.0 told.0 x one) xs ones,
+    all_tests fr env ts xs next.1 told.1 ones,
+  )
+
+  all_found : (ts : List (Tuple ItemView)) (xs : List ItemView) → AllByRecursion (λ t. length (outside ++ t) ≡ item.slot) ts
+      → map (λ t. filter (λ x. meet (join_texts f item (value_at item.slot (outside ++ with_one Value t x))) (join_texts f tuple (value_at tuple.slot (outside ++ with_one Value t x)))) xs) ts ≡ map (found_at xs) ts
+  all_found [] xs next = refl
+  all_found (t ∷ ts) xs next = (λ i. filter_same _ (λ x. meet (join_texts f item (x ∷ [])) (join_texts f tuple (value_at tuple.slot (outside ++ t)))) xs (meet_at t next.0) i ∷ all_found ts xs next.1 i)
+
+  -- each tuple with those of the items that match
+  pub join_gives : (ts : List (Tuple ItemView)) (xs : List ItemView) (lists : List (List ItemView)) → AreIn f xs
+      → AllByRecursion (λ t. length (outside ++ t) ≡ item.slot) ts → AllByRecursion (λ t. IsTold equality f tuple (value_at tuple.slot (outside ++ t))) ts
+      → AllByRecursion (λ x. IsTold equality f item (x ∷ [])) xs → lists ≡ map (found_at xs) ts
+      → Matches f join outside ts xs lists
+  join_gives ts xs lists xs_in next told ones is = record {
+    inside = subst (TupleIn f) (sym is) (found_in ts xs xs_in);
+    gives = λ frame env.
+        kept_of (at_tuple frame) f ts (keys_equal join) xs (keys_meet frame env) (all_tests frame env ts xs next told ones)
+        ∙ ap (λ ls. (Ok (tuples_at f (expanded Value false false ts ls)), f)) (all_found ts xs next ∙ sym is);
+  }
+
+-- the keys of nodes, as items
+pub ones_told : (equality : Equality) (f : List Tree) (key : JoinKey) (nodes : List Spot) → AllByRecursion (λ n. IsTold equality f key (NodeAt n ∷ [])) nodes
+    → AllByRecursion (λ x. IsTold equality f key (x ∷ [])) (map NodeAt nodes)
+ones_told equality f key [] h = tt
+ones_told equality f key (n ∷ nodes) h = (h.0, ones_told equality f key nodes h.1)

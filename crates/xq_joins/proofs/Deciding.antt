@@ -19,13 +19,13 @@ use Rattle.xq_meaning.specs.Readings.{node_at, items_at, AreIn}
 use Rattle.xq_meaning.specs.Steps.{axis_nodes}
 use Rattle.xq_sources.specs.Sources.{HasNode}
 use Rattle.xq_operators.specs.Views.{tuple_at}
-use Rattle.xq_joins.specs.declared.joins.Join.{Join}
+use Rattle.xq_joins.specs.declared.pairs.KeyPair.{KeyPair}
 use Rattle.xq_joins.specs.declared.keyed.Keyed.{Keyed}
 use Rattle.xq_joins.specs.declared.keyed.KeyedTest.{KeyedTest}
-use Rattle.xq_joins.specs.Joins.{IsTest}
 use Rattle.xq_joins.specs.Keyed.{leads_to_key, passes_key, first_with}
 use Rattle.xq_joins.specs.Keys.{IsNode, scan_in, scans, text_at, key_texts, meet, places_among}
 use Rattle.xq_joins.specs.private.Keyed.{ComparesNext, HasTexts, decided}
+use Rattle.xq_joins.specs.private.Pairs.{IsTest}
 use Rattle.xq_joins.proofs.Clauses.{value_front, value_last}
 use Rattle.xq_joins.proofs.Keying.{held_is}
 use Rattle.xq_joins.proofs.Meeting.{meet_swap}
@@ -36,7 +36,7 @@ use Rattle.xq_joins.proofs.TextTests.{axis_ordered}
 one_scan : (steps : List PlanStep) (a : Axis) (of : Test) → steps ≡ step.Scan a of ∷ [] → scans steps ≡ (a, of) ∷ []
 one_scan steps a of e = ap scans e ∙ ap (λ o. scan_in o ++ []) (step.outs-Scan a of)
 
-pub next_is : (next : ℕ) (join : Join) (found : Keyed) (p : Plan) → IsTest join p → join.item.slot ≡ next → join.tuple.slot < next → found.key ≡ join.tuple → join.item.steps.now ≡ step.Scan found.axis found.test.now ∷ []
+pub next_is : (next : ℕ) (join : KeyPair) (found : Keyed) (p : Plan) → IsTest join p → join.item.slot ≡ next → join.tuple.slot < next → found.key ≡ join.tuple → join.item.steps.now ≡ step.Scan found.axis found.test.now ∷ []
     → ComparesNext next found p
 next_is next join found p is at before key one = record {
   earlier = subst (λ k. k.slot < next) (sym key) before;

@@ -22,7 +22,8 @@ use Rattle.xq_joins.specs.Keyed.{leads_to_key, passes_key, IsKeyedTest}
 use Rattle.xq_joins.specs.Keys.{IsNode, scans, nodes_after, text_at, key_texts, meet, places_among}
 use Rattle.xq_joins.specs.private.Keyed.{ComparesKey, HasTexts}
 use Rattle.xq_joins.specs.private.Shapes.{IsKey, equality}
-use Rattle.xq_joins.proofs.Clauses.{nodes_read, filter_same}
+use Rattle.xq_joins.proofs.Clauses.{filter_same}
+use Rattle.xq_joins.proofs.JoinKeys.{nodes_read}
 use Rattle.xq_joins.proofs.Meanings.{key_is}
 use Rattle.xq_joins.proofs.Meeting.{meet_swap, pairs_meet}
 use Rattle.xq_joins.proofs.TextTests.{near_is, equality_gives}

@@ -2,6 +2,7 @@ pub mod Lists
 pub mod Meeting
 pub mod Walks
 pub mod Meanings
+pub mod JoinKeys
 pub mod Clauses
 pub mod Found
 pub mod TextTests

@@ -1,6 +1,6 @@
 -- Facts of all elements of a list, one element after another.
-use Rattle.std.proofs.Common.{◌≡◌, ℕ, zero, suc, arith, slice_index_or, Result, Ok, Err, ◌+◌, ◌<◌, ◌≤◌, List, [], ◌∷◌, ◌++◌, length, map, take, drop, get_or, sym, ◌∙◌, ap, subst, add-one}
-use Rattle.std.specs.Prelude.{IfOk}
+use Rattle.std.proofs.Common.{◌≡◌, ℕ, zero, suc, arith, slice_index_or, Option, Some, None, Result, Ok, Err, ◌+◌, ◌<◌, ◌≤◌, List, [], ◌∷◌, ◌++◌, length, map, take, drop, get_or, refl, sym, ◌∙◌, ap, subst, add-one}
+use Rattle.std.specs.Prelude.{IfOk, IfSome}
 use Rattle.std.specs.List.{AllByRecursion}
 use Rattle.std.proofs.lemmas.List.{map-append, take_all}
 use Rattle.std.proofs.Math.Seq.{drop-cons}
@@ -38,3 +38,24 @@ all_index P (y ∷ ys) (suc i) d h k = all_index P ys i d h.1 (omega arith)
 pub if_ok : {A E : Type 0} (P Q : A → Type 0) (r : Result A E) → ((x : A) → P x → Q x) → IfOk r P → IfOk r Q
 if_ok P Q (Ok x) then' h = then' x h
 if_ok P Q (Err e) then' h = h
+
+-- what follows where something was found
+pub if_found : {A E : Type 0} (P R : A → Type 0) (Q : Type 0) (r : Result (Option A) E) → ((x : A) → P x → Q → R x)
+    → IfOk r (λ o. IfSome o P) → IfOk r (λ o. IfSome o (λ x. Q)) → IfOk r (λ o. IfSome o R)
+if_found P R Q (Ok (Some x)) then' h k = then' x h k
+if_found P R Q (Ok None) then' h k = tt
+if_found P R Q (Err e) then' h k = h
+
+pub if_some : {A E : Type 0} (P R : A → Type 0) (r : Result (Option A) E) → ((x : A) → P x → R x)
+    → IfOk r (λ o. IfSome o P) → IfOk r (λ o. IfSome o R)
+if_some P R (Ok (Some x)) then' h = then' x h
+if_some P R (Ok None) then' h = tt
+if_some P R (Err e) then' h = h
+
+-- an element that was read
+pub element : {X : Type 0} (P : X → Type 0) (xs : List X) (i : ℕ) (x : X) → AllByRecursion P xs → i < length xs → x ≡ get_or xs i x → P x
+element P xs i x h k is = subst P (sym is) (all_index P xs i x h k)
+
+pub none_left : {X : Type 0} (xs : List X) → length xs < 1 → xs ≡ []
+none_left [] h = refl
+none_left (x ∷ xs) h = absurd (omega (arith, h))

@@ -20,12 +20,12 @@ use Rattle.xq_meaning.specs.Operators.{operated}
 use Rattle.xq_meaning.specs.PlanMeaning.{Frame, Meaning, next_step, plan_mean, plan_step_mean}
 use Rattle.xq_meaning.proofs.PlanEquations.{plan-Call, plan-Chain, plan-Path, plan-Slot, plan-Str}
 use Rattle.xq_meaning.proofs.SameForms.{AreRelated, go_on_same, in_turn_same}
-use Rattle.xq_joins.specs.declared.joins.Key.{Key}
-use Rattle.xq_joins.specs.Joins.{IsFrom, IsTest}
+use Rattle.xq_joins.specs.declared.pairs.Key.{Key}
 use Rattle.xq_joins.specs.Keys.{scans, nodes_after, text_at, key_texts, meet}
-use Rattle.xq_joins.specs.private.Shapes.{IsKey, IsLiteral, IsPlainCall, IsScan, equality}
+use Rattle.xq_joins.specs.private.Pairs.{IsTest}
+use Rattle.xq_joins.specs.private.Shapes.{IsKey, equality}
 use Rattle.xq_joins.proofs.Meeting.{meet_swap, pairs_meet}
-use Rattle.xq_joins.proofs.Walks.{Stays, then_stays, in_turn_stays, path_from_nodes, path_stays, path_same}
+use Rattle.xq_joins.proofs.Walks.{path_from_nodes}
 
 -- # Paths
 
@@ -33,82 +33,10 @@ use Rattle.xq_joins.proofs.Walks.{Stays, then_stays, in_turn_stays, path_from_no
 path_is : (start : Plan) (steps : List PlanStep) (frame : Frame) (f : List Tree) → plan_mean (plan.Path start steps) frame f ≡ go_on (plan_mean start frame f) (λ xs. in_turn (next_step frame) xs (map plan_step_mean steps))
 path_is start steps frame f = ap (λ m. m frame f) (plan-Path start steps)
 
-path_constructs : (start : Plan) (steps : List PlanStep) → AllByRecursion IsScan steps → (frame : Frame) → Stays (plan_mean start frame) → Stays (plan_mean (plan.Path start steps) frame)
-path_constructs start steps h frame before f =
-    ap (λ (o : Outcome (List Item)). o.1) (path_is start steps frame f)
-    ∙ then_stays (plan_mean start frame f) (λ xs. in_turn (next_step frame) xs (map plan_step_mean steps)) f (before f) (λ xs. path_stays frame steps h xs)
-
-path_alike : (start : Plan) (steps : List PlanStep) → AllByRecursion IsScan steps → (frame other : Frame) (f : List Tree) → plan_mean start frame f ≡ plan_mean start other f
-    → plan_mean (plan.Path start steps) frame f ≡ plan_mean (plan.Path start steps) other f
-path_alike start steps h frame other f same =
-    path_is start steps frame f
-    ∙ ap (λ o. go_on o (λ xs. in_turn (next_step frame) xs (map plan_step_mean steps))) same
-    ∙ go_on_same (plan_mean start other f) (λ xs. in_turn (next_step frame) xs (map plan_step_mean steps)) (λ xs. in_turn (next_step other) xs (map plan_step_mean steps)) (λ xs g. path_same frame other steps h xs g)
-    ∙ sym (path_is start steps other f)
-
 -- # Slots
 
 slot_is : (n : ℕ) (frame : Frame) (f : List Tree) → plan_mean (plan.Slot n) frame f ≡ (Ok (value_at n frame.env), f)
 slot_is n frame f = ap (λ m. m frame f) (plan-Slot n)
-
-slot_from : (n : ℕ) → IsFrom (Some n) (plan.Slot n)
-slot_from n = record {
-  same = λ frame slots others trees e. slot_is n (Forms.in_env frame slots) trees ∙ ap (λ xs. (Ok xs, trees)) e ∙ sym (slot_is n (Forms.in_env frame others) trees);
-  constructs_nothing = λ frame trees. ap (λ (o : Outcome (List Item)). o.1) (slot_is n frame trees);
-}
-
-path_of_from : (start : Option ℕ) (p : Plan) (steps : List PlanStep) → AllByRecursion IsScan steps → IsFrom start p → IsFrom start (plan.Path p steps)
-path_of_from start p steps h is = record {
-  same = λ frame slots others trees e. path_alike p steps h (Forms.in_env frame slots) (Forms.in_env frame others) trees (is.same frame slots others trees e);
-  constructs_nothing = λ frame trees. path_constructs p steps h frame (λ f. is.constructs_nothing frame f) trees;
-}
-
-pub key_from : (n : ℕ) (steps : List PlanStep) (p : Plan) → IsKey n steps p → IsFrom (Some n) p
-key_from n steps p key = elim (key.form) [
-  | inl e ↦ subst (IsFrom (Some n)) (sym e.0) (slot_from n)
-  | inr e ↦ subst (IsFrom (Some n)) (sym e) (path_of_from (Some n) (plan.Slot n) steps key.scans (slot_from n))
-]
-
--- # Calls with literals
-
-literal_is : (p : Plan) (l : IsLiteral p) (frame : Frame) (f : List Tree) → plan_mean p frame f ≡ (Ok (atomic (String l.0)), f)
-literal_is p l frame f = ap (λ m. m frame f) (ap plan_mean l.1 ∙ plan-Str l.0)
-
-literals_stay : (frame : Frame) (parts : List Plan) → AllByRecursion IsLiteral parts → AllByRecursion (λ (m : Meaning). (done : List (List Item)) → Stays (one_more (λ (part : Meaning). part frame) done m)) (map plan_mean parts)
-literals_stay frame [] h = tt
-literals_stay frame (p ∷ ps) h = (
-  λ done f. then_stays (plan_mean p frame f) (λ y. give (done ++ y ∷ [])) f (ap (λ (o : Outcome (List Item)). o.1) (literal_is p h.0 frame f)) (λ y g. refl),
-  literals_stay frame ps h.1,
-)
-
-literals_related : (frame other : Frame) (parts : List Plan) → AllByRecursion IsLiteral parts
-    → AreRelated (λ (m n : Meaning). (done : List (List Item)) (f : List Tree) → one_more (λ (part : Meaning). part frame) done m f ≡ one_more (λ (part : Meaning). part other) done n f) (map plan_mean parts) (map plan_mean parts)
-literals_related frame other [] h = tt
-literals_related frame other (p ∷ ps) h = (
-  λ done f. ap (λ o. go_on o (λ y. give (done ++ y ∷ []))) (literal_is p h.0 frame f ∙ sym (literal_is p h.0 other f)),
-  literals_related frame other ps h.1,
-)
-
-call_is : (function : Function) (parts : List Plan) (frame : Frame) (f : List Tree)
-    → plan_mean (plan.Call function parts) frame f ≡ go_on (in_turn (one_more (λ (part : Meaning). part frame)) [] (map plan_mean parts) f) (λ values. on_trees (λ trees. called function trees frame.addresses frame.focus values))
-call_is function parts frame f = ap (λ m. m frame f) (plan-Call function parts)
-
-call_from : (function : Function) (parts : List Plan) → AllByRecursion IsLiteral parts → IsFrom None (plan.Call function parts)
-call_from function parts h = record {
-  same = λ frame slots others trees e.
-      call_is function parts (Forms.in_env frame slots) trees
-      ∙ ap (λ o. go_on o (λ values. on_trees (λ trees. called function trees frame.addresses frame.focus values)))
-      (in_turn_same (one_more (λ (part : Meaning). part (Forms.in_env frame slots))) (one_more (λ (part : Meaning). part (Forms.in_env frame others))) (map plan_mean parts) (map plan_mean parts) (literals_related (Forms.in_env frame slots) (Forms.in_env frame others) parts h) [] trees)
-      ∙ sym (call_is function parts (Forms.in_env frame others) trees);
-  constructs_nothing = λ frame trees.
-      ap (λ (o : Outcome (List Item)). o.1) (call_is function parts frame trees)
-      ∙ then_stays (in_turn (one_more (λ (part : Meaning). part frame)) [] (map plan_mean parts) trees) (λ values. on_trees (λ trees. called function trees frame.addresses frame.focus values)) trees
-      (in_turn_stays (one_more (λ (part : Meaning). part frame)) (map plan_mean parts) (literals_stay frame parts h) [] trees) (λ values g. refl);
-}
-
-pub plain_path_from : (start p : Plan) (steps : List PlanStep) → IsPlainCall start → AllByRecursion IsScan steps → p ≡ plan.Path start steps → IsFrom None p
-plain_path_from start p steps call h is =
-    subst (IsFrom None) (sym is) (path_of_from None start steps h (subst (IsFrom None) (sym call.is) (call_from call.function call.parts call.literals)))
 
 -- # Keys
 

@@ -56,7 +56,7 @@ meet_swap as' bs = any_swap text_eq as' bs ∙ any_same (λ b. list_any (λ a. t
 
 -- # Comparison of nodes: XQuery 3.1, 3.7.2
 
-typed_is_text : (k : Kind) (t : Text) → IsText (atomic_value (typed_by k t)) t
+pub typed_is_text : (k : Kind) (t : Text) → IsText (atomic_value (typed_by k t)) t
 typed_is_text kind.Document t = refl
 typed_is_text kind.Element t = refl
 typed_is_text kind.Attribute t = refl
@@ -64,10 +64,10 @@ typed_is_text kind.Text t = refl
 typed_is_text kind.Comment t = refl
 typed_is_text kind.ProcessingInstruction t = refl
 
-plain : (s t : Text) → compare_general comp.Eq (String s) (String t) ≡ Ok (text_eq s t)
+pub plain : (s t : Text) → compare_general comp.Eq (String s) (String t) ≡ Ok (text_eq s t)
 plain s t = ap Ok (is_eq-slice_cmp s t)
 
-compared : (a b : Atomic) (s t : Text) → IsText a s → IsText b t → compare_general comp.Eq a b ≡ Ok (text_eq s t)
+pub compared : (a b : Atomic) (s t : Text) → IsText a s → IsText b t → compare_general comp.Eq a b ≡ Ok (text_eq s t)
 compared (String x) (String y) s t h k = plain x y ∙ (λ i. Ok (text_eq (h i) (k i)))
 compared (String x) (Untyped y) s t h k = plain x y ∙ (λ i. Ok (text_eq (h i) (k i)))
 compared (Untyped x) (String y) s t h k = plain x y ∙ (λ i. Ok (text_eq (h i) (k i)))
@@ -82,16 +82,16 @@ compared (Untyped x) (Integer n) s t h k = absurd k
 compared (Untyped x) (Decimal n) s t h k = absurd k
 compared (Untyped x) (Boolean c) s t h k = absurd k
 
-or_none : (b : Bool) → (b || false) ≡ b
+pub or_none : (b : Bool) → (b || false) ≡ b
 or_none true = refl
 or_none false = refl
 
-or_is : (b c : Bool) → or_rest b (Ok c) ≡ Ok (b || c)
+pub or_is : (b c : Bool) → or_rest b (Ok c) ≡ Ok (b || c)
 or_is true c = refl
 or_is false c = refl
 
 module _ (trees : List Tree) where
-  node_text : (p : Place) → IsText (atom_of trees (Node p)) (text_at trees p)
+  pub node_text : (p : Place) → IsText (atom_of trees (Node p)) (text_at trees p)
   node_text p = typed_is_text (tree_below trees p).root.kind (text_at trees p)
 
   some_with_texts : (a : Atomic) (s : Text) → IsText a s → (qs : List Place) → some_with comp.Eq a (atomized trees (map Node qs)) ≡ Ok (list_any (text_eq s) (map (text_at trees) qs))

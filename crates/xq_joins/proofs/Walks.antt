@@ -36,7 +36,7 @@ in_turn_stays act (x ∷ xs) h b f = then_stays (act b x f) (λ next. in_turn ac
 
 -- # One scan
 
-scan_from : (axis : Axis) (test : Test) (ps : List Place) (f : List Tree) → Forms.scan axis test (map Node ps) f ≡ (Ok (map Node (in_document_order f (flat_map (axis_nodes f axis test) ps))), f)
+pub scan_from : (axis : Axis) (test : Test) (ps : List Place) (f : List Tree) → Forms.scan axis test (map Node ps) f ≡ (Ok (map Node (in_document_order f (flat_map (axis_nodes f axis test) ps))), f)
 scan_from axis test ps f =
     ap (λ r. go_on (judged r f) (λ places. on_trees (λ trees. Ok (in_order trees (flat_map (axis_nodes trees axis test) places))))) (are_nodes XPTY0019 ps)
 

@@ -1,4 +1,6 @@
 pub mod Shapes
+pub mod Pairs
+pub mod JoinKeys
 pub mod Tables
 pub mod Texts
 pub mod Keyed

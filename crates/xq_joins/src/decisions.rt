@@ -10,8 +10,8 @@ ghost use Rattle.xq_operators.specs.Views.{tuple_at, TupleIn};
 ghost use Rattle.xq_joins.specs.Keyed.{first_with, passes_key as passes_key_lem};
 ghost use Rattle.xq_joins.specs.private.Keyed.{decided, ComparesNext};
 
-use crate::joins::keys_of;
 use crate::keyed::{Keyed, KeyedTest, passes_key, with_texts};
+use crate::pairs::keys_of;
 use std::alloc::Global;
 use xq_atoms::Want;
 use xq_meaning::{Plan, PlanStep, Test};
@@ -37,12 +37,12 @@ fn only_scan(steps: &[PlanStep]) -> Option<(Axis, &Test)>
 fn keyed_next(test: &Plan, next: usize) -> Option<Keyed<'_>>
     ensures { IfSome result (λ found. ComparesNext next found test.now) }
 {
-    let join = keys_of(test, next)?;
-    let (axis, of) = only_scan(join.item.steps)?;
+    let pair = keys_of(test, next)?;
+    let (axis, of) = only_scan(pair.item.steps)?;
     Some(Keyed {
         axis,
         test: of,
-        key: join.tuple,
+        key: pair.tuple,
     })
 }
 

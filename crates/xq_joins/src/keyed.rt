@@ -16,8 +16,8 @@ ghost use Rattle.xq_joins.specs.Keys.{meet, text_at, IsNode};
 ghost use Rattle.xq_joins.specs.private.Keyed.{ComparesKey, HasTexts};
 
 use crate::equalities::{TextTest, have_text, keep_by_text, near_step};
-use crate::joins::Key;
 use crate::keys::key_texts;
+use crate::pairs::Key;
 use crate::shapes::{key_of, operands};
 use crate::values::{are_nodes, value};
 use std::alloc::Global;

@@ -1,20 +1,23 @@
 //! Texts of keys, and a table from them to nodes.
-ghost use Rattle.std.specs.Prelude.{◌≡◌, ◌++◌, ◌∷◌, ◌&&◌, ◌||◌, [], Bool, map, string_bytes, if◌then◌else◌, IfOk, OnOk};
+ghost use Rattle.std.specs.Prelude.{◌≡◌, ◌++◌, ◌∷◌, ◌&&◌, ◌||◌, [], Bool, map, string_bytes, if◌then◌else◌, IfOk, IfSome, OnOk};
 ghost use Rattle.std.specs.List.{list_any};
 ghost use Rattle.xq_atoms.specs.Text.{Text, text_eq};
 ghost use Rattle.xq_axes.specs.Nodes.{HaveAll};
 ghost use Rattle.xq_trees.specs.declared.items.Node.{Node as NodeLem};
-ghost use Rattle.xq_trees.specs.Items.{item_view};
+ghost use Rattle.xq_sources.specs.Sources.{HasNode};
+ghost use Rattle.xq_trees.specs.Items.{item_view, Place};
 ghost use Rattle.xq_meaning.specs.Readings.{node_at, AreIn};
 ghost use Rattle.xq_joins.specs.Keys.{scans, nodes_after as nodes_after_lem, text_at, texts_from};
+ghost use Rattle.xq_joins.specs.private.JoinKeys.{IsKeyOf};
 ghost use Rattle.xq_joins.specs.private.Tables.{IsTable, nodes_with};
 
+use crate::join_keys::join_key_texts;
 use crate::values::nodes_among;
 use std::alloc::Global;
 use std::collections::HashMap;
 use xq_atoms::Want;
 use xq_axes::{step as step_from, string_value};
-use xq_meaning::PlanStep;
+use xq_meaning::{Equality, JoinKey, PlanStep};
 use xq_sources::RowLender;
 use xq_trees::{Item, Node};
 
@@ -45,7 +48,7 @@ fn nodes_after<L: RowLender>(
 }
 
 /// The text of each node.
-fn texts_of<L: RowLender>(
+pub fn texts_of<L: RowLender>(
     alloc: Global,
     source: &mut L,
     nodes: &[Node],
@@ -102,24 +105,46 @@ fn add_each(table: &mut Table, texts: Vec<String>, node: Node) -> Result<(), Wan
     Ok(())
 }
 
-/// The table that has for each text those of the nodes of which a key is this text.
+/// The texts of the key of a node. None where they aren't texts, or may be refused.
+fn node_texts<L: RowLender>(
+    alloc: Global,
+    source: &mut L,
+    equality: Equality,
+    key: &JoinKey,
+    node: Node,
+) -> Result<Option<Vec<String>>, Want>
+    ensures texts { L.is_clean source.new → HasNode (L.forest source.old) node.tree node.pre
+        → IfOk result (λ found. IfSome found (λ texts. IsKeyOf equality (L.forest source.old)
+        key.now (Place node ∷ []) (map string_bytes texts.items))) }
+    ensures keeps { L.forest source.new ≡ L.forest source.old }
+    ensures was_clean { L.is_clean source.new → L.is_clean source.old }
+{
+    join_key_texts(alloc, source, equality, key, &[Item::Node(node)])
+}
+
+/// The table that has for each text those of the nodes of which a key is this text. None where a
+/// key is no text, or may be refused.
 pub fn table_of<L: RowLender>(
     alloc: Global,
     source: &mut L,
+    equality: Equality,
+    key: &JoinKey,
     nodes: &[Node],
-    steps: &[PlanStep],
-) -> Result<Table, Want>
+) -> Result<Option<Table>, Want>
     ensures table { L.is_clean source.new → HaveAll (L.forest source.old) nodes.now
-        → IfOk result (IsTable (L.forest source.old) steps.now nodes.now) }
+        → IfOk result (λ found. IfSome found (λ table.
+        IsTable equality (L.forest source.old) key.now nodes.now table)) }
     ensures keeps { L.forest source.new ≡ L.forest source.old }
     ensures was_clean { L.is_clean source.new → L.is_clean source.old }
 {
     let mut table = HashMap::new(alloc);
     for node in nodes {
-        let texts = key_texts(alloc, source, &[Item::Node(*node)], steps)?;
+        let Some(texts) = node_texts(alloc, source, equality, key, *node)? else {
+            return Ok(None);
+        };
         add_each(&mut table, texts, *node)?;
     }
-    Ok(table)
+    Ok(Some(table))
 }
 
 /// The nodes of all these texts.

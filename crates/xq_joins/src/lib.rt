@@ -1,6 +1,6 @@
-//! What is found without the values of its parts. Value joins: a `for` over nodes, and a `where`
-//! after it that asks whether a key of each equals a key of the tuple, by a table from texts to
-//! nodes and not pair by pair (XQuery 3.1, sections 3.12.2 and 3.12.5); equalities of a text, or of
+//! What is found without the values of its parts. Joins of items with tuples whose keys are equal,
+//! by a table from texts to nodes and not pair by pair (XQuery 3.1, sections 3.12.2 and 3.12.5);
+//! equalities of a text, or of
 //! the texts of a key, and of what one step leads to; and the atom of one step from a node at hand,
 //! or of a call on it, or of one that counts what a path from a document leads to: texts are read
 //! where they lie, and no lists are made.
@@ -9,10 +9,11 @@
 mod atoms;
 mod decisions;
 mod equalities;
-mod joins;
+mod join_keys;
 mod keyed;
 mod keys;
 mod matches;
+mod pairs;
 mod paths;
 mod shapes;
 mod values;
@@ -20,7 +21,6 @@ mod values;
 pub use atoms::{atom_of, atom_of_call};
 pub use decisions::decided_by_key;
 pub use equalities::{NodeTest, TextTest, keep_by_text, leads_to_text, node_test, text_test};
-pub use joins::{Join, Key, join_at};
 pub use keyed::{KeyedTest, keep_by_key, keyed_test, only_text_test};
 pub use matches::matching;
-pub use values::are_nodes;
+pub use values::{are_nodes, value};

@@ -1,11 +1,10 @@
-//! The forms of plans that a join has.
+//! The forms of plans that compare keys.
 ghost use Rattle.std.specs.Prelude.{◌≡◌, true, IfSome};
 ghost use Rattle.std.specs.List.{AllByRecursion};
 ghost use Rattle.xq_meaning.specs.declared.plans.Plan.TheVariants as plan_of;
-ghost use Rattle.xq_joins.specs.Joins.{IsFrom};
-ghost use Rattle.xq_joins.specs.private.Shapes.{IsKey, IsLiteral, IsPlainCall, IsScan, equality as equality_lem};
+ghost use Rattle.xq_joins.specs.private.Shapes.{IsKey, IsScan, equality as equality_lem};
 
-use crate::joins::Key;
+use crate::pairs::Key;
 use xq_expressions::{ComparisonOperator, Relation};
 use xq_meaning::{Operator, Plan, PlanStep};
 
@@ -19,28 +18,6 @@ fn are_scans(steps: &[PlanStep]) -> bool
         };
     }
     true
-}
-
-/// Whether all plans are string literals.
-fn are_literals(parts: &[Plan]) -> bool
-    ensures { result ≡ true → AllByRecursion IsLiteral parts.now }
-{
-    for part in parts {
-        let Plan::Str(_) = part else {
-            return false;
-        };
-    }
-    true
-}
-
-/// Whether the plan is a call with literals as arguments, as `doc("x")`.
-fn is_plain_call(plan: &Plan) -> bool
-    ensures { result ≡ true → IsPlainCall plan.now }
-{
-    let Plan::Call(_, parts) = plan else {
-        return false;
-    };
-    are_literals(parts.as_slice())
 }
 
 /// The key that scans from a slot are.
@@ -68,24 +45,6 @@ pub fn key_of(plan: &Plan) -> Option<Key<'_>>
         }),
         Plan::Path(start, steps) => path_key(start.get(), steps.as_slice()),
         _ => None,
-    }
-}
-
-/// The slot from whose value a plan comes by scans, or no slot where it begins with a call with
-/// literals as arguments: such a plan constructs nothing.
-pub fn start_of(plan: &Plan) -> Option<Option<usize>>
-    ensures { IfSome result (λ start. IsFrom start plan.now) }
-{
-    if let Some(key) = key_of(plan) {
-        return Some(Some(key.slot));
-    }
-    let Plan::Path(start, steps) = plan else {
-        return None;
-    };
-    if is_plain_call(start.get()) && are_scans(steps.as_slice()) {
-        Some(None)
-    } else {
-        None
     }
 }
 

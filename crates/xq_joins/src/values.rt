@@ -62,19 +62,3 @@ pub fn as_items(alloc: Global, nodes: &[Node]) -> Result<Items, Want>
     }
     Ok(items)
 }
-
-/// Whether both values are one node, the same one.
-pub fn are_one_node(first: &[Item], second: &[Item]) -> bool
-    ensures { result ≡ true → map item_view first.now ≡ map item_view second.now }
-{
-    if first.len() != 1 || second.len() != 1 {
-        return false;
-    }
-    let Item::Node(node) = &first[0] else {
-        return false;
-    };
-    let Item::Node(other) = &second[0] else {
-        return false;
-    };
-    node.tree == other.tree && node.pre == other.pre
-}

@@ -10,6 +10,7 @@ use Rattle.xq_expressions.specs.declared.operators.UnnamedNode.{UnnamedNode}
 use Rattle.xq_expressions.specs.declared.operators.OrderModifier.{OrderModifier}
 use Rattle.xq_trees.specs.declared.Axis.{Axis}
 use Rattle.xq_expressions.specs.declared.signatures.Function.{Function}
+use Rattle.xq_meaning.specs.declared.joins.Join.{Join}
 use Rattle.xq_meaning.specs.declared.node_tests.Test.{Test}
 use Rattle.xq_meaning.specs.declared.operators.Operator.{Operator}
 use Rattle.xq_meaning.specs.declared.plans.Plan.{Plan, fold-roll-Plan}
@@ -174,6 +175,13 @@ clause-For a b c =
     ap plan_clause_mean (sym (clause.rolls-For a b c))
     ∙ fold-roll-PlanClause Meaning ClauseMeaning StepMeaning plan_form plan_clause plan_step
     (PlanClause-F.For a b c)
+
+pub clause-Join : (a : Plan) (b : Join) → plan_clause_mean (clause.Join a b)
+    ≡ plan_clause (PlanClause-F.Join (plan_mean a) b)
+clause-Join a b =
+    ap plan_clause_mean (sym (clause.rolls-Join a b))
+    ∙ fold-roll-PlanClause Meaning ClauseMeaning StepMeaning plan_form plan_clause plan_step
+    (PlanClause-F.Join a b)
 
 pub clause-Let : (a : Plan) → plan_clause_mean (clause.Let a)
     ≡ plan_clause (PlanClause-F.Let (plan_mean a))

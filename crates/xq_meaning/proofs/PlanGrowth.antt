@@ -1,9 +1,16 @@
 -- The list of trees only grows, whatever the plan is: by induction over plans.
-use Rattle.std.proofs.Common.{List, [], ◌∷◌, map, subst, sym}
+use Rattle.std.proofs.Common.{List, [], ◌∷◌, map, false, subst, sym}
 use Rattle.std.specs.List.{AllByRecursion}
 use Rattle.xq_expressions.specs.declared.operators.OrderModifier.{OrderModifier}
 use Rattle.xq_expressions.specs.declared.signatures.Function.{Function}
-use Rattle.xq_trees.specs.Tuples.{Tuple}
+use Rattle.xq_expressions.specs.declared.operators.AllowingEmpty.TheVariants as allowing
+use Rattle.xq_trees.specs.declared.Axis.{Axis}
+use Rattle.xq_trees.specs.Tuples.{Tuple, value_at}
+use Rattle.xq_meaning.specs.declared.joins.Join.{Join}
+use Rattle.xq_meaning.specs.declared.joins.JoinKey.{JoinKey}
+use Rattle.xq_meaning.specs.declared.joins.KeyForm.{KeyForm}
+use Rattle.xq_meaning.specs.declared.joins.KeyForm.TheVariants as key_form
+use Rattle.xq_meaning.specs.declared.node_tests.Test.{Test}
 use Rattle.xq_meaning.specs.declared.operators.Operator.{Operator}
 use Rattle.xq_meaning.specs.Items.{Item}
 use Rattle.xq_meaning.specs.Doing.{in_turn, for_each}
@@ -12,7 +19,7 @@ use Rattle.xq_meaning.specs.declared.plans.Plan.{Plan, map-Plan, fold-roll-Plan,
 use Rattle.xq_meaning.specs.declared.plans.PlanClause.{PlanClause, map-PlanClause, fold-roll-PlanClause}
 use Rattle.xq_meaning.specs.declared.plans.PlanStep.{PlanStep, map-PlanStep, fold-roll-PlanStep}
 use Rattle.xq_meaning.specs.declared.plans.Plan.TheOpen.{Plan-F, PlanClause-F, PlanStep-F}
-use Rattle.xq_meaning.specs.PlanMeaning.{Frame, Meaning, ClauseMeaning, StepMeaning, at_tuple, next_clause, next_step, opened, plan_form, plan_clause, plan_step, plan_mean, plan_clause_mean, plan_step_mean}
+use Rattle.xq_meaning.specs.PlanMeaning.{Frame, Meaning, ClauseMeaning, StepMeaning, at_tuple, at_carried, comparison, formed, key_mean, keys_equal, join_tuples, next_clause, next_step, opened, plan_form, plan_clause, plan_step, plan_mean, plan_clause_mean, plan_step_mean}
 use Rattle.xq_meaning.proofs.Growth.{Grows, TreeStore, AllGrowing, extends_itself, then_grows, in_turn_grows, for_each_grows, all_of, atoms_grow, call_grows, arrow_grows, sequence_grows, chain_grows, unary_grows, or_grows, and_grows, conditional_grows, filter_grows, slash_grows, map_grows, named_node_grows, unnamed_node_grows, root_grows, step_grows, quantified_grows, for_tuples_grows, let_tuples_grows, where_tuples_grows, return_grows, count_tuples_grows, group_tuples_grows}
 
 -- # What is claimed of each part
@@ -103,6 +110,24 @@ form_grows (Plan-F.Map start parts) = map_grows (plan_mean start.0) _ start.1 (p
 form_grows (Plan-F.Named kind name part) = named_node_grows kind (plan_mean name.0) (plan_mean part.0) name.1 part.1
 form_grows (Plan-F.Unnamed kind part) = unnamed_node_grows kind (plan_mean part.0) part.1
 
+-- keys make no tree
+key_grows : (key : JoinKey) → TreeStore (key_mean key)
+key_grows key frame f =
+    then_grows (in_turn (λ zs (axis, test). Forms.scan axis test zs) (value_at key.slot frame.env) key.scans f) _ f
+    (in_turn_grows (λ zs (s : Axis × Test). Forms.scan s.0 s.1 zs) key.scans (all_of (λ (s : Axis × Test). (xs : List Item) → Grows (Forms.scan s.0 s.1 xs)) (λ s xs g. then_grows _ _ g (extends_itself g) (λ places h. extends_itself h)) key.scans) (value_at key.slot frame.env) f)
+    (by key.form)
+  where
+    by : (form : KeyForm) (ys : List Item) → Grows (formed form ys)
+    by key_form.Value ys g = extends_itself g
+    by key_form.Data ys g = extends_itself g
+    by key_form.String ys g = extends_itself g
+
+join_grows : (m : Meaning) → TreeStore m → (join : Join) → ClauseGrows (join_tuples m join)
+join_grows m h join frame tuples f =
+    then_grows (Forms.for_tuples allowing.No false m (at_carried join frame) tuples f) _ f
+    (for_tuples_grows allowing.No false m h (at_carried join frame) tuples f)
+    (λ found. where_tuples_grows (keys_equal join) (chain_grows (key_mean join.left) ((comparison join.equality, key_mean join.right) ∷ []) (key_grows join.left) (key_grows join.right, tt)) (at_tuple frame) found)
+
 abbrev clause_parts : PlanClause-F P C S → PlanClause-F Meaning ClauseMeaning StepMeaning
 clause_parts y =
     map-PlanClause Plan PlanClause PlanStep Meaning ClauseMeaning StepMeaning plan_mean plan_clause_mean plan_step_mean
@@ -110,6 +135,7 @@ clause_parts y =
 
 clause_grows : (y : PlanClause-F P C S) → ClauseGrows (plan_clause (clause_parts y))
 clause_grows (PlanClause-F.For empties at part) = λ frame. for_tuples_grows empties at (plan_mean part.0) part.1 (at_tuple frame)
+clause_grows (PlanClause-F.Join part join) = λ frame. join_grows (plan_mean part.0) part.1 join frame
 clause_grows (PlanClause-F.Let part) = λ frame. let_tuples_grows (plan_mean part.0) part.1 (at_tuple frame)
 clause_grows (PlanClause-F.Where part) = λ frame. where_tuples_grows (plan_mean part.0) part.1 (at_tuple frame)
 clause_grows (PlanClause-F.Group slots) = λ frame. group_tuples_grows slots

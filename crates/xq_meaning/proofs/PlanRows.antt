@@ -15,6 +15,8 @@ use Rattle.xq_expressions.specs.declared.operators.NamedNode.TheVariants as name
 use Rattle.xq_expressions.specs.declared.operators.UnnamedNode.TheVariants as unnamed
 use Rattle.xq_trees.specs.declared.Axis.TheVariants as axis
 use Rattle.xq_expressions.specs.declared.signatures.Function.TheVariants as f
+use Rattle.xq_meaning.specs.declared.joins.Equality.TheVariants as equality
+use Rattle.xq_meaning.specs.declared.joins.KeyForm.TheVariants as key_form
 use Rattle.xq_meaning.specs.declared.node_tests.Test.TheVariants as test
 use Rattle.xq_meaning.specs.declared.operators.Operator.TheVariants as operator
 use Rattle.xq_meaning.proofs.PlanWriting as p
@@ -442,3 +444,45 @@ allowing_empty_and_count : answer (p.flwor (p.for_or_none_at (p.seq []) ∷ p.nu
     (p.slot 1 ∷ p.slot 2 ∷ []))) ≡ Ok (codes "0, 1")
 unfolding digits chars
 allowing_empty_and_count = refl
+
+-- for $x in ("a", "b"), $y in ("b", "a", "b") where $y = $x return ($x, $y), by a join
+join_in_the_order_of_both : answer (p.flwor (p.for_in (p.seq (p.txt "a" ∷ p.txt "b" ∷ [])) ∷ p.join
+    (p.seq (p.txt "b" ∷ p.txt "a" ∷ p.txt "b" ∷ [])) equality.General (p.key 1 [] key_form.Value)
+    (p.key 0 [] key_form.Value) ∷ []) (p.seq (p.slot 0 ∷ p.slot 1 ∷ []))) ≡ Ok (codes
+    "\"a\", \"a\", \"b\", \"b\", \"b\", \"b\"")
+unfolding digits chars
+join_in_the_order_of_both = refl
+
+-- let $d := doc("b"), $i := "2" for $b in $d//book where $i eq string($b/@id) return string($b), by
+-- a join whose range starts from a slot of the tuple
+join_from_a_slot : answer (p.flwor (p.let_be (p.call f.Doc (p.txt "b" ∷ [])) ∷ p.let_be (p.txt "2")
+    ∷ p.join_from 0 (p.path (p.slot 0) (p.scan axis.DescendantOrSelf test.Any ∷ p.scan axis.Child
+    (test.Element (Some (codes "book"))) ∷ [])) equality.Value (p.key 1 [] key_form.Value) (p.key 2
+    ((axis.Attributes, test.Attribute (Some (codes "id"))) ∷ []) key_form.String) ∷ []) (p.call
+    f.String (p.slot 2 ∷ []))) ≡ Ok (codes "\"B\"")
+unfolding digits chars
+join_from_a_slot = refl
+
+-- for $x in ("a", "b") let $y := () for $z in (1, 2) where string($y) eq $z return 1, by a join: the
+-- empty text and a number
+join_of_the_empty_text : answer (p.flwor (p.for_in (p.seq (p.txt "a" ∷ p.txt "b" ∷ [])) ∷ p.let_be
+    (p.seq []) ∷ p.join (p.seq (p.num 1 ∷ p.num 2 ∷ [])) equality.Value (p.key 1 []
+    key_form.String) (p.key 2 [] key_form.Value) ∷ []) (p.num 1)) ≡ Err XPTY0004
+unfolding digits chars
+join_of_the_empty_text = refl
+
+-- for $x in ("a", "b") let $y := () for $z in (1, 2) where $y eq $z return 1, by a join: nothing
+-- equals nothing
+join_of_nothing : answer (p.flwor (p.for_in (p.seq (p.txt "a" ∷ p.txt "b" ∷ [])) ∷ p.let_be
+    (p.seq []) ∷ p.join (p.seq (p.num 1 ∷ p.num 2 ∷ [])) equality.Value (p.key 1 []
+    key_form.Data) (p.key 2 [] key_form.Data) ∷ []) (p.num 1)) ≡ Ok (codes "()")
+unfolding digits chars
+join_of_nothing = refl
+
+-- let $y := (1, 2) for $z in "a" where $z/a = string($y) return 1, by a join: the left key is
+-- refused before the right one
+join_refuses_the_left_key : answer (p.flwor (p.let_be (p.seq (p.num 1 ∷ p.num 2 ∷ [])) ∷ p.join
+    (p.txt "a") equality.General (p.key 1 ((axis.Child, test.Any) ∷ []) key_form.Value) (p.key 0 []
+    key_form.String) ∷ []) (p.num 1)) ≡ Err XPTY0019
+unfolding digits chars
+join_refuses_the_left_key = refl

@@ -1,7 +1,7 @@
 -- Short words to write worked rows of plans with: each form, as its meaning from those of its
 -- parts.
 use Prim.Native.String.{String}
-use Rattle.std.specs.Prelude.{ℕ, pos, true, false, List, codes}
+use Rattle.std.specs.Prelude.{ℕ, pos, true, false, List, Some, None, codes}
 use Rattle.xq_expressions.specs.declared.operators.AllowingEmpty.TheVariants as allowing
 use Rattle.xq_expressions.specs.declared.operators.Sign.{Sign}
 use Rattle.xq_expressions.specs.declared.operators.Quantifier.{Quantifier}
@@ -10,6 +10,9 @@ use Rattle.xq_expressions.specs.declared.operators.UnnamedNode.{UnnamedNode}
 use Rattle.xq_expressions.specs.declared.operators.OrderModifier.{OrderModifier}
 use Rattle.xq_trees.specs.declared.Axis.{Axis}
 use Rattle.xq_expressions.specs.declared.signatures.Function.{Function}
+use Rattle.xq_meaning.specs.declared.joins.Equality.{Equality}
+use Rattle.xq_meaning.specs.declared.joins.JoinKey.{JoinKey}
+use Rattle.xq_meaning.specs.declared.joins.KeyForm.{KeyForm}
 use Rattle.xq_meaning.specs.declared.node_tests.Test.{Test}
 use Rattle.xq_meaning.specs.declared.operators.Operator.{Operator}
 use Rattle.xq_meaning.specs.declared.plans.Plan.TheOpen.{Plan-F, PlanClause-F, PlanStep-F}
@@ -102,6 +105,27 @@ for_at part = plan_clause (PlanClause-F.For allowing.No true part)
 
 abbrev pub for_or_none_at : Meaning → ClauseMeaning
 for_or_none_at part = plan_clause (PlanClause-F.For allowing.Yes true part)
+
+abbrev pub key : ℕ → List (Axis × Test) → KeyForm → JoinKey
+key slot scans form = record { slot = slot; scans = scans; form = form }
+
+abbrev pub join : Meaning → Equality → JoinKey → JoinKey → ClauseMeaning
+join range equality left right =
+    plan_clause (PlanClause-F.Join range (record {
+      carried = None;
+      equality = equality;
+      left = left;
+      right = right;
+    }))
+
+abbrev pub join_from : ℕ → Meaning → Equality → JoinKey → JoinKey → ClauseMeaning
+join_from slot range equality left right =
+    plan_clause (PlanClause-F.Join range (record {
+      carried = Some slot;
+      equality = equality;
+      left = left;
+      right = right;
+    }))
 
 abbrev pub numbers : ClauseMeaning
 numbers = plan_clause PlanClause-F.Count

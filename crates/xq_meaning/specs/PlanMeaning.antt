@@ -1,14 +1,26 @@
 -- What a plan means, over numbered slots: one line a form.
-use Rattle.std.specs.Prelude.{ℕ, List, [], ◌∷◌, ◌++◌, map}
+use Rattle.std.specs.Prelude.{ℕ, List, [], ◌∷◌, ◌++◌, map, false, Option, Some, None, Ok}
+use Rattle.xq_expressions.specs.declared.operators.AllowingEmpty.TheVariants as allowing
+use Rattle.xq_expressions.specs.declared.operators.ComparisonOperator.TheVariants as comparing
+use Rattle.xq_expressions.specs.declared.operators.Relation.TheVariants as relation
+use Rattle.xq_meaning.specs.declared.joins.Equality.{Equality}
+use Rattle.xq_meaning.specs.declared.joins.Equality.TheVariants as equality
+use Rattle.xq_meaning.specs.declared.joins.Join.{Join}
+use Rattle.xq_meaning.specs.declared.joins.JoinKey.{JoinKey}
+use Rattle.xq_meaning.specs.declared.joins.KeyForm.{KeyForm}
+use Rattle.xq_meaning.specs.declared.joins.KeyForm.TheVariants as key_form
+use Rattle.xq_meaning.specs.declared.operators.Operator.{Operator}
+use Rattle.xq_meaning.specs.declared.operators.Operator.TheVariants as operator
 use Rattle.xq_meaning.specs.declared.plans.Plan.{Plan, fold-Plan}
 use Rattle.xq_meaning.specs.declared.plans.PlanClause.{PlanClause, fold-PlanClause}
 use Rattle.xq_meaning.specs.declared.plans.PlanStep.{PlanStep, fold-PlanStep}
 use Rattle.xq_meaning.specs.declared.plans.Plan.TheOpen.{Plan-F, PlanClause-F, PlanStep-F}
 use Rattle.xq_atoms.specs.Atom.{Integer, Decimal, String}
 use Rattle.xq_trees.specs.Tuples.{Tuple, value_at}
-use Rattle.xq_meaning.specs.Items.{Item}
-use Rattle.xq_meaning.specs.Doing.{Doing, ◌>>=◌, give, refuse, in_turn}
+use Rattle.xq_meaning.specs.Items.{Item, Atom, atomized}
+use Rattle.xq_meaning.specs.Doing.{Doing, ◌>>=◌, give, refuse, on_trees, in_turn}
 use Rattle.xq_meaning.specs.Forms
+use Rattle.xq_meaning.specs.Functions as Functions
 
 -- the values of the slots that are open
 abbrev pub Slots : Type 0
@@ -67,10 +79,54 @@ abbrev pub plan_step : PlanStep-F Meaning ClauseMeaning StepMeaning → StepMean
 plan_step (PlanStep-F.Each part) frame xs = Forms.slash frame xs part
 plan_step (PlanStep-F.Scan axis test) frame xs = Forms.scan axis test xs
 
+-- # Joins: a `for` and a `where` after it, which compares two keys for equality
+
+-- the operator that compares
+abbrev pub comparison : Equality → Operator
+comparison equality.General = operator.Comparison (comparing.General relation.Equal)
+comparison equality.Value = operator.Comparison (comparing.Value relation.Equal)
+
+-- what is taken of the items that a key leads to: F&O 3.1, 2.3 and 2.4
+abbrev pub formed : KeyForm → List Item → Doing (List Item)
+formed key_form.Value xs = give xs
+formed key_form.Data xs = on_trees (λ trees. Ok (map Atom (atomized trees xs)))
+formed key_form.String xs = on_trees (λ trees. Functions.string trees xs)
+
+-- a key, from the value of its slot
+abbrev pub key_from : JoinKey → List Item → Doing (List Item)
+key_from key xs = do
+  ys ← in_turn (λ zs (axis, test). Forms.scan axis test zs) xs key.scans
+  formed key.form ys
+
+-- and in a frame
+abbrev pub key_mean : JoinKey → Meaning
+key_mean key frame = key_from key (value_at key.slot frame.env)
+
+-- the comparison of both keys, the left one first
+abbrev pub keys_equal : Join → Meaning
+keys_equal join =
+    Forms.chain (key_mean join.left) ((comparison join.equality, key_mean join.right) ∷ [])
+
+-- the slot that the range reads, of those that are open at a tuple
+abbrev pub carried : Option ℕ → Slots → Tuple Item
+carried None slots = []
+carried (Some n) slots = value_at n slots ∷ []
+
+-- the frame of the range at a tuple: no other slot of the tuple is open there
+abbrev pub at_carried : Join → Frame → Tuple Item → Frame
+at_carried join frame tuple = at_tuple frame (carried join.carried (frame.env ++ tuple))
+
+-- each tuple with each item of the range, and those of them whose keys are equal
+abbrev pub join_tuples : Meaning → Join → ClauseMeaning
+join_tuples range join frame tuples = do
+  found ← Forms.for_tuples allowing.No false range (at_carried join frame) tuples
+  Forms.where_tuples (keys_equal join) (at_tuple frame) found
+
 -- a clause, from the meanings of its parts
 abbrev pub plan_clause : PlanClause-F Meaning ClauseMeaning StepMeaning → ClauseMeaning
 plan_clause (PlanClause-F.For empties at part) frame =
     Forms.for_tuples empties at part (at_tuple frame)
+plan_clause (PlanClause-F.Join range join) frame = join_tuples range join frame
 plan_clause (PlanClause-F.Let part) frame = Forms.let_tuples part (at_tuple frame)
 plan_clause (PlanClause-F.Where part) frame = Forms.where_tuples part (at_tuple frame)
 plan_clause (PlanClause-F.Group slots) frame = Forms.group_tuples slots

@@ -3,11 +3,13 @@
 //! and plans.
 #![tactic(auto)]
 
+mod joins;
 mod node_tests;
 mod normal_forms;
 mod operators;
 mod plans;
 
+pub use joins::{Equality, Join, JoinKey, KeyForm};
 pub use node_tests::Test;
 pub use normal_forms::{Core, CoreClause};
 pub use operators::Operator;

@@ -5,6 +5,7 @@
 //! and in a quantified expression one for each binding before. So a binding needs no number: it
 //! takes the next slot.
 
+use crate::joins::Join;
 use crate::node_tests::Test;
 use crate::operators::Operator;
 use sqlite_items::{Boxed, Items};
@@ -62,6 +63,9 @@ pub enum PlanClause {
     /// Whether what the item ranges over may be empty, whether a slot for the position follows that
     /// of the item, and what the item ranges over.
     For(AllowingEmpty, bool, Plan),
+    /// What the item ranges over, which reads of the slots of the tuples none but the one that is
+    /// carried, and the keys that are compared: a `for`, and the `where` after it.
+    Join(Plan, Join),
     Let(Plan),
     Where(Plan),
     /// By slots of the tuples, numbered from 0 for the first binding of this FLWOR.

@@ -16,3 +16,4 @@ pub mod Splitting
 pub mod NodesAtOnce
 pub mod WholePaths
 pub mod Rising
+pub mod JoinLaws

@@ -7,6 +7,7 @@ ghost use Rattle.xq_optimise.specs.Same.{GivesSame};
 ghost use Rattle.xq_optimise.specs.Scans.{KeepsScans};
 
 mod held;
+mod joins;
 mod kinds;
 mod lists;
 mod order;

@@ -9,7 +9,7 @@ use crate::kinds::held_by;
 use crate::lists::reversed;
 use crate::scopes::{bind, forget};
 use crate::sure::{as_comparison, is_nodes, is_test};
-use sqlite_items::Items;
+use sqlite_items::{Boxed, Items};
 use std::alloc::{AllocError, Global};
 use xq_expressions::Relation;
 use xq_meaning::{Plan, PlanClause};
@@ -63,6 +63,7 @@ fn put_back(left: Vec<PlanClause>, others: Vec<PlanClause>) -> Result<Vec<PlanCl
 
 /// The clauses that are left, with the next one before those that it goes over.
 fn with_first(
+    alloc: Global,
     left: Vec<PlanClause>,
     passed: Vec<PlanClause>,
     next: PlanClause,
@@ -70,8 +71,10 @@ fn with_first(
     ensures { IfOk result (λ after.
         after.items ≡ (left.items ++ reverse passed.items) ++ next ∷ []) }
 {
+    // (boxed, since one call then drops it where memory is wanting)
+    let next = Boxed::new(alloc, next)?;
     let mut after = put_back(left, passed)?;
-    after.push(next)?;
+    after.push(next.into_inner())?;
     Ok(after)
 }
 
@@ -111,7 +114,7 @@ fn risen(
     let mut passed = Vec::new(alloc);
     while let Some(next) = left.pop() {
         if is_rising(known, &next) {
-            return with_first(left, passed, next);
+            return with_first(alloc, left, passed, next);
         }
         if !may_pass(known, passed.as_slice(), &next) {
             return unmoved(left, passed, next);
@@ -133,6 +136,7 @@ fn follow(known: &mut Vec<Held>, outer: usize, next: &PlanClause) -> Result<(), 
             let held = held_by(known, range);
             bind(known, held, *at)
         }
+        PlanClause::Join(_, _) => bind(known, Held::Anything, false),
         PlanClause::Let(value) => {
             let held = held_by(known, value);
             bind(known, held, false)
@@ -182,8 +186,10 @@ pub fn arranged(
     let mut left = first;
     let mut found = Items::new(alloc);
     while let Some(next) = left.pop() {
-        follow(known, outer, &next)?;
-        found.push(next)?;
+        // (boxed, since one call then drops it where memory is wanting)
+        let next = Boxed::new(alloc, next)?;
+        follow(known, outer, next.get())?;
+        found.push(next.into_inner())?;
         left = risen(alloc, known, left)?;
     }
     known.truncate(outer);

@@ -5,6 +5,7 @@ ghost use Rattle.xq_optimise.specs.Same.{GivesSame};
 ghost use Rattle.xq_optimise.specs.private.Parts as parts;
 
 use crate::held::Held;
+use crate::joins::with_joins;
 use crate::kinds::held_by;
 use crate::lists::reversed;
 use crate::order::arranged;
@@ -252,7 +253,8 @@ fn flwor(
     let part = boxed(alloc, known, part)?;
     known.truncate(outer);
     let sorted = arranged(alloc, known, list)?;
-    Ok(Plan::Flwor(sorted, part))
+    let joined = with_joins(alloc, outer, sorted)?;
+    Ok(Plan::Flwor(joined, part))
 }
 
 /// The clauses of a FLWOR, whose slots are those from a place on; they stay known.
@@ -298,6 +300,10 @@ fn clause(
             let found = pushed(found, PlanClause::For(empties, at, range))?;
             bind(known, held, at)?;
             Ok(found)
+        }
+        PlanClause::Join(range, join) => {
+            known.push(Held::Anything)?;
+            pushed(found, PlanClause::Join(range, join))
         }
         PlanClause::Let(value) => {
             let value = expression(alloc, known, value)?;

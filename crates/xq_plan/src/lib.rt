@@ -9,6 +9,7 @@ ghost use Rattle.xq_plan.specs.Scans.{ScansDocument};
 mod copies;
 mod walk;
 
+pub use copies::test as copied_test;
 use std::alloc::Global;
 use xq_atoms::Want;
 use xq_expressions::Scope;

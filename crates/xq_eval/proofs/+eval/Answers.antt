@@ -29,8 +29,8 @@ use Prim.Native.Nat.{max}
 use Rattle.xq_expressions.specs.declared.signatures.Function.{Function}
 use Rattle.xq_meaning.specs.declared.operators.Operator.{Operator}
 use Rattle.xq_meaning.specs.Doing.{◌>>=◌, Outcome, go_on, give, judged, on_trees, collected, in_turn, more, one_more, for_each, first_that}
-use Rattle.xq_meaning.specs.PlanMeaning.{Frame, Meaning, flwor, plan_mean, plan_clause_mean, plan_step_mean, at_tuple, next_clause, next_step}
-use Rattle.xq_meaning.proofs.PlanEquations.{plan-Int, plan-Str, plan-Root, plan-Step, plan-Named, plan-Unnamed, plan-Call, plan-Quantified, clause-Group, clause-Order, clause-Refused, step-Scan, plan-Dec, plan-Slot, plan-ContextItem, plan-Sequence, plan-Chain, plan-Unary, plan-If, plan-Or, plan-And, plan-Filter, plan-Path, plan-Flwor, step-Each, clause-For, clause-Let, clause-Where, clause-Count, plan-Arrow, plan-Map}
+use Rattle.xq_meaning.specs.PlanMeaning.{Frame, Meaning, at_carried, flwor, plan_mean, plan_clause_mean, plan_step_mean, at_tuple, next_clause, next_step}
+use Rattle.xq_meaning.proofs.PlanEquations.{plan-Int, plan-Str, plan-Root, plan-Step, plan-Named, plan-Unnamed, plan-Call, plan-Quantified, clause-Group, clause-Order, clause-Refused, clause-Join, step-Scan, plan-Dec, plan-Slot, plan-ContextItem, plan-Sequence, plan-Chain, plan-Unary, plan-If, plan-Or, plan-And, plan-Filter, plan-Path, plan-Flwor, step-Each, clause-For, clause-Let, clause-Where, clause-Count, plan-Arrow, plan-Map}
 use Rattle.xq_meaning.proofs.Turns.{begun_then}
 use Rattle.xq_operators.specs.Views.{order_specs, calling, ordering, after_double_slash, parents_below, plant_named, plant_unnamed, tuple_at, tuples_at, lists_of, spot_at, forget, frame_at, TupleIn, TuplesIn, GivesNode, GivesSequence, GivesTuples, FrameIn}
 use Rattle.xq_eval.specs.private.Results.{GivesKey, GivesKeys, GivesLists, GivesTests, GivesPlain}
@@ -43,11 +43,9 @@ use Rattle.std.specs.Prelude.{IsSome, Option}
 use Rattle.std.specs.Option.{option_copied}
 use Rattle.xq_trees.specs.declared.items.Item.{Item as Item_held}
 use Rattle.xq_trees.specs.Tree.{Tree}
-use Rattle.xq_joins.specs.Joins.{all_matched}
-use Rattle.xq_joins.specs.Keys.{IsNode}
 use Rattle.xq_joins.proofs.Lists.{all_index}
-use Rattle.xq_eval.specs.private.Joining.{AreBoth, GivesMatched}
-use Rattle.xq_eval.proofs.Joining.{first_is, some_is, for_refused, refused_gives, matched_gives}
+use Rattle.xq_eval.specs.private.Joining.{carried_at, first_tuple}
+use Rattle.xq_eval.proofs.JoinLaws.{first_is, no_more, later_of, carried_grown, carried_frame, read_in, join_none, join_steady, join_stops, later_stops, join_later}
 use Rattle.xq_meaning.specs.declared.plans.PlanClause.{PlanClause}
 use Rattle.xq_meaning.specs.declared.plans.PlanClause.TheVariants as clause
 use Rattle.xq_eval.proofs.Loops.{got_at, left_over, left_from, two_left, none_taken, one_taken, turns_same, turns_two, turns_from, turns_stop_two, turns_next, turns_stop, turns_end, tries_next, tries_found, tries_stop, handed_on, stops, cut}
@@ -4089,141 +4087,261 @@ evaluation::keep-returns-in-Some-clause-goes g t c = stays _ _
 pub evaluation::keep-returns-in_err-value-clause-goes : goal.evaluation::keep-returns-in_err-value-clause-goes
 evaluation::keep-returns-in_err-value-clause-goes g t c = stays _ _
 
-pub clauses::clause_list-returns-in_err-lists-clause-gives : goal.clauses::clause_list-returns-in_err-lists-clause-gives
-clauses::clause_list-returns-in_err-lists-clause-gives g t c = λ clean inside.
-    let i = c.loop-index.invariant in
-    let f = g.W.TreeSource.forest c.loop-index.world in
-    let f' = g.W.TreeSource.forest c.matching_lists.new.world in
-    let held = c.args.frame in
-    let clauses = c.args.clauses.now in
-    let n = c.loop-index.index in
-    let p = c.index-clauses-index.result in
-    let tuples = c.loop-index.tuples in
-    let e = c.in_err-lists.field-0.0 in
-    let left = ap (λ k. map plan_clause_mean (drop k clauses)) (none_taken c.loop-index.is_taken n c.if-is_taken.false) ∙ left_over plan_clause_mean clauses n p (omega arith) c.index-clauses-index.is in
-    handed_on (λ (ts : List (Tuple ItemView)). ts) tuples_at TuplesIn _ f' e c.from_residual-in_err-lists.result c.from_residual-in_err-lists.ensures.1
-    (turns_stop _ _ _ (λ (ts : List (Tuple ItemView)). ts) tuples_at TuplesIn (plan_clause_mean p) _ f' e i.turns left c.matching_lists.ensures.goes.was_clean
-    (λ clean inside is_in. subst (λ fr. GivesTuples (plan_clause_mean p fr (tuples_at f tuples) f) f' (Err e)) (frame_grown i.goes.grows held inside) (c.in_err-lists.ensures.gives clean (frame_in_grown i.goes.grows held inside) is_in)) clean inside)
-
-pub clauses::clause_list-loop-index-preserved-in-Some : goal.clauses::clause_list-loop-index-preserved-in-Some
-clauses::clause_list-loop-index-preserved-in-Some g t c =
-    let i = c.loop-index.invariant in
-    let f = g.W.TreeSource.forest c.loop-index.world in
-    let f' = g.W.TreeSource.forest c.matching_lists.new.world in
-    let held = c.args.frame in
-    let clauses = c.args.clauses.now in
-    let n = c.loop-index.index in
-    let p = c.index-clauses-index.result in
-    let tuples = c.loop-index.tuples in
-    let lists = lists_of c.in-Some.lists in
-    let after = option_copied c.at-next.result in
-    let second = some_is after (subst (λ (o : Option (Vec (Vec Item_held))). IfSome o (λ _. IsSome after)) c.in-Some.is c.in_ok-lists.ensures.followed) in
-    let q = second.0 in
-    let next = sym c.at-next.ensures ∙ second.1 in
-    let left = ap (λ k. map plan_clause_mean (drop k clauses)) (none_taken c.loop-index.is_taken n c.if-is_taken.false) ∙ two_left plan_clause_mean clauses n p q (omega arith) c.index-clauses-index.is next in
-    let stream = c.in_ok-tuples-2.ensures.stream in
-    record {
-      goes = goes_on_to i.goes c.matching_lists.ensures.goes;
-      turns = turns_two _ _ _ c.in_ok-tuples-2.tuples (plan_clause_mean p) (plan_clause_mean q) _ _ i.turns left c.matching_lists.ensures.goes.was_clean
-          (λ clean inside is_in.
-          let both : AreBoth (plan_clause_mean p) (Some q) (frame_at f held) tuples f f' lists =
-          subst (λ (o : Option PlanClause). AreBoth (plan_clause_mean p) o (frame_at f held) tuples f f' lists) second.1
-          (subst (λ (o : Option (Vec (Vec Item_held))). GivesMatched (plan_clause_mean p) after (frame_at f held) tuples f f' (Ok o)) c.in-Some.is (c.in_ok-lists.ensures.gives clean (frame_in_grown i.goes.grows held inside) is_in)) in (
-            subst (TuplesIn f') (sym stream) both.inside,
-            ap (λ fr. go_on (plan_clause_mean p fr (tuples_at f tuples) f) (plan_clause_mean q fr)) (sym (frame_grown i.goes.grows held inside)) ∙ both.gives ∙ ap (λ ts. (Ok (tuples_at f' ts), f')) (sym stream),
-          ));
-      within = (let at = got_at clauses (n + 1) q next in omega (arith, at.0));
-    }
-
-pub clauses::clause_list-returns-in_err-tuples-3-clause-gives : goal.clauses::clause_list-returns-in_err-tuples-3-clause-gives
-clauses::clause_list-returns-in_err-tuples-3-clause-gives g t c = λ clean inside.
-    let i = c.loop-index.invariant in
-    let f = g.W.TreeSource.forest c.loop-index.world in
-    let f1 = g.W.TreeSource.forest c.matching_lists.new.world in
+pub clauses::clause_list-loop-clause-preserved : goal.clauses::clause_list-loop-clause-preserved
+clauses::clause_list-loop-clause-preserved g t c =
+    let i = c.loop-clause.invariant in
+    let f = g.W.TreeSource.forest c.loop-clause.world in
     let f' = g.W.TreeSource.forest c.next_tuples.new.world in
     let held = c.args.frame in
     let clauses = c.args.clauses.now in
-    let n = c.loop-index.index in
-    let p = c.index-clauses-index.result in
-    let tuples = c.loop-index.tuples in
-    let after = option_copied c.at-next.result in
-    let e = c.in_err-tuples-3.field-0.0 in
-    let left = ap (λ k. map plan_clause_mean (drop k clauses)) (none_taken c.loop-index.is_taken n c.if-is_taken.false) ∙ left_over plan_clause_mean clauses n p (omega arith) c.index-clauses-index.is in
-    handed_on (λ (ts : List (Tuple ItemView)). ts) tuples_at TuplesIn _ f' e c.from_residual-in_err-tuples-3.result c.from_residual-in_err-tuples-3.ensures.1
-    (turns_stop _ _ _ (λ (ts : List (Tuple ItemView)). ts) tuples_at TuplesIn (plan_clause_mean p) _ f' e i.turns left (λ k. c.matching_lists.ensures.goes.was_clean (c.next_tuples.ensures.goes.was_clean k))
-    (λ clean inside is_in.
-    let here = frame_in_grown i.goes.grows held inside in
-    let same : f1 ≡ f = subst (λ (o : Option (Vec (Vec Item_held))). GivesMatched (plan_clause_mean p) after (frame_at f held) tuples f f1 (Ok o)) c.in_default.is (c.in_ok-lists.ensures.gives (c.next_tuples.ensures.goes.was_clean clean) here is_in) in
-    subst (λ fr. GivesTuples (plan_clause_mean p fr (tuples_at f tuples) f) f' (Err e)) (frame_grown i.goes.grows held inside)
-    (subst (λ (h : List Tree). FrameIn h held → TuplesIn h tuples → GivesTuples (plan_clause_mean p (frame_at h held) (tuples_at h tuples) h) f' (Err e)) same (λ x y. c.in_err-tuples-3.ensures.gives clean x y) here is_in)) clean inside)
+    let n = c.loop-clause.clause-index in
+    let p = c.clause-item.result in
+    let tuples = c.loop-clause.tuples in
+    record {
+      goes = goes_on_to i.goes c.next_tuples.ensures.goes;
+      turns = turns_next _ _ _ c.in_ok-tuples-2.tuples (plan_clause_mean p) _ _ i.turns (left_over plan_clause_mean clauses n p (omega arith) c.clause-item.is) c.next_tuples.ensures.goes.was_clean
+          (λ clean inside is_in.
+          let s = c.in_ok-tuples-2.ensures.gives clean (frame_in_grown i.goes.grows held inside) is_in in
+          (s.0, ap (λ fr. plan_clause_mean p fr (tuples_at f tuples) f) (sym (frame_grown i.goes.grows held inside)) ∙ s.1));
+    }
 
-pub clauses::clause_list-loop-index-preserved : goal.clauses::clause_list-loop-index-preserved
-clauses::clause_list-loop-index-preserved g t c =
-    let i = c.loop-index.invariant in
-    let f = g.W.TreeSource.forest c.loop-index.world in
-    let f1 = g.W.TreeSource.forest c.matching_lists.new.world in
+pub clauses::clause_list-returns-in_err-tuples-2-clause-gives : goal.clauses::clause_list-returns-in_err-tuples-2-clause-gives
+clauses::clause_list-returns-in_err-tuples-2-clause-gives g t c = λ clean inside.
+    let i = c.loop-clause.invariant in
+    let f = g.W.TreeSource.forest c.loop-clause.world in
     let f' = g.W.TreeSource.forest c.next_tuples.new.world in
     let held = c.args.frame in
     let clauses = c.args.clauses.now in
-    let n = c.loop-index.index in
-    let p = c.index-clauses-index.result in
-    let tuples = c.loop-index.tuples in
-    let after = option_copied c.at-next.result in
-    let given = c.in_ok-tuples-3.tuples in
-    let left = ap (λ k. map plan_clause_mean (drop k clauses)) (none_taken c.loop-index.is_taken n c.if-is_taken.false) ∙ left_over plan_clause_mean clauses n p (omega arith) c.index-clauses-index.is in
-    let one = sym (none_taken c.loop-index.is_taken (n + 1) c.if-is_taken.false) in
-    record {
-      goes = goes_on_to (goes_on_to i.goes c.in_ok-lists.ensures.goes) c.in_ok-tuples-3.ensures.goes;
-      turns = turns_same _ _ _ _ (turns_next _ _ _ given (plan_clause_mean p) _ _ i.turns left (λ k. c.matching_lists.ensures.goes.was_clean (c.next_tuples.ensures.goes.was_clean k))
-          (λ clean inside is_in.
-          let here = frame_in_grown i.goes.grows held inside in
-          let same : f1 ≡ f = subst (λ (o : Option (Vec (Vec Item_held))). GivesMatched (plan_clause_mean p) after (frame_at f held) tuples f f1 (Ok o)) c.in_default.is (c.in_ok-lists.ensures.gives (c.next_tuples.ensures.goes.was_clean clean) here is_in) in
-          let s = subst (λ (h : List Tree). FrameIn h held → TuplesIn h tuples → TuplesIn f' given × (plan_clause_mean p (frame_at h held) (tuples_at h tuples) h ≡ (Ok (tuples_at f' given), f'))) same (λ x y. c.in_ok-tuples-3.ensures.gives clean x y) here is_in in
-          (s.0, ap (λ fr. plan_clause_mean p fr (tuples_at f tuples) f) (sym (frame_grown i.goes.grows held inside)) ∙ s.1))) (ap (λ k. map plan_clause_mean (drop k clauses)) one);
-      within = subst (λ k. k ≤ length clauses) one (omega arith);
-    }
+    let n = c.loop-clause.clause-index in
+    let p = c.clause-item.result in
+    let tuples = c.loop-clause.tuples in
+    let e = c.in_err-tuples-2.field-0.0 in
+    handed_on (λ (ts : List (Tuple ItemView)). ts) tuples_at TuplesIn _ f' e c.from_residual-in_err-tuples-2.result c.from_residual-in_err-tuples-2.ensures.1
+    (turns_stop _ _ _ (λ (ts : List (Tuple ItemView)). ts) tuples_at TuplesIn (plan_clause_mean p) _ f' e i.turns (left_over plan_clause_mean clauses n p (omega arith) c.clause-item.is) c.next_tuples.ensures.goes.was_clean
+    (λ clean inside is_in. subst (λ fr. GivesTuples (plan_clause_mean p fr (tuples_at f tuples) f) f' (Err e)) (frame_grown i.goes.grows held inside) (c.in_err-tuples-2.ensures.gives clean (frame_in_grown i.goes.grows held inside) is_in)) clean inside)
 
-pub clauses::matching_lists-returns-clause-gives : goal.clauses::matching_lists-returns-clause-gives
-clauses::matching_lists-returns-clause-gives g t c = λ clean inside tuples_in.
+pub clauses::next_tuples-returns-in-Join-clause-gives : goal.clauses::next_tuples-returns-in-Join-clause-gives
+clauses::next_tuples-returns-in-Join-clause-gives g t c = λ clean inside tuples_in.
     let f = g.W.TreeSource.forest c.args.world.now in
-    let f' = g.W.TreeSource.forest c.at_tuple.new.world in
-    let after = g.W.TreeSource.forest c.matching.new.source in
-    let held = c.args.frame in
-    let frame = frame_at f held in
-    let outside = values_of held.slots.now in
-    let tuples = c.args.tuples.now in
-    let source = c.in-For.source in
-    let next = option_copied c.args.next in
-    let join = c.in-Some.join in
-    let are = c.in-Some.ensures in
-    let views = item_views c.in_ok-items.items in
-    let found = c.in_ok-matching.field-0 in
-    let first = c.tuple.ensures ∙ first_is tuples in
-    let x = values_of c.tuple.result.now in
-    let at : values_of c.deref.result.now ≡ values_of c.args.frame.slots.now ++ x = ap values_of c.deref.ensures.value ∙ c.in_ok-slots.ensures in
-    let tuple_in = subst (TupleIn f) (sym c.tuple.ensures) (all_index (TupleIn f) tuples 0 [] tuples_in are.some) in
-    let given = c.in_ok-items.ensures.gives (c.matching.ensures.was_clean clean) inside x at tuple_in in
-    let grows = c.in_ok-items.ensures.goes.grows in
-    let value = subst (λ (u : Tuple ItemView). plan_mean source (at_tuple frame (tuple_at f u)) f ≡ (Ok (items_at f' views), f')) first given.1 in
-    let d : map item_view c.deref-2.result.now ≡ views = ap (map item_view) c.deref-2.ensures.value in
-    let nodes = subst (λ (xs : List ItemView). IfSome found (λ _. AllByRecursion IsNode xs)) d c.in_ok-matching.ensures.nodes in
-    let lists = subst (λ (xs : List ItemView). IfSome found (λ ls. lists_of ls ≡ all_matched f' join outside tuples xs)) d
-    (c.in_ok-matching.ensures.lists clean (tuple_in_grown grows outside inside.slots_in) (tuples_in_grown grows tuples tuples_in) (subst (AreIn f') (sym d) given.0)) in
-    subst (λ (k : PlanClause). GivesMatched (plan_clause_mean k) next frame tuples f after (Ok found)) (sym c.in-For.is)
-    (matched_gives frame f outside refl tuples c.in-For.empties c.in-For.at source next join are f' after views found tuples_in given.0 value nodes lists c.matching.ensures.keeps)
-
-pub clauses::matching_lists-returns-in_err-items-clause-gives : goal.clauses::matching_lists-returns-in_err-items-clause-gives
-clauses::matching_lists-returns-in_err-items-clause-gives g t c = λ clean inside tuples_in.
-    let f = g.W.TreeSource.forest c.args.world.now in
-    let f' = g.W.TreeSource.forest c.at_tuple.new.world in
     let frame = frame_at f c.args.frame in
-    let tuples = c.args.tuples.now in
-    let source = c.in-For.source in
-    let some = c.in-Some.ensures.some in
+    let tuples = tuples_at f c.args.tuples in
+    subst (λ o. GivesTuples o (g.W.TreeSource.forest c.join_tuples.new.world) c.join_tuples.result)
+    (sym (ap (λ k. plan_clause_mean k frame tuples f) c.in-Join.is ∙ ap (λ m. m frame tuples f) (clause-Join c.in-Join.range c.in-Join.join)))
+    (c.join_tuples.ensures.gives clean inside tuples_in)
+
+pub clauses::next_tuples-returns-in-Join-clause-goes : goal.clauses::next_tuples-returns-in-Join-clause-goes
+clauses::next_tuples-returns-in-Join-clause-goes g t c = c.join_tuples.ensures.goes
+
+-- # Joins
+
+pub clauses::join_tuples-returns-then-len-eq0-clause-goes : goal.clauses::join_tuples-returns-then-len-eq0-clause-goes
+clauses::join_tuples-returns-then-len-eq0-clause-goes g t c = stays _ _
+
+pub clauses::join_tuples-returns-then-len-eq0-clause-gives : goal.clauses::join_tuples-returns-then-len-eq0-clause-gives
+clauses::join_tuples-returns-then-len-eq0-clause-gives g t c = λ clean inside tuples_in.
+    join_none (g.W.TreeSource.forest c.args.world.now) c.args.frame c.args.join.now (plan_mean c.args.range.now) c.args.tuples (omega arith)
+
+pub clauses::join_tuples-returns-in_err-slots-clause-goes : goal.clauses::join_tuples-returns-in_err-slots-clause-goes
+clauses::join_tuples-returns-in_err-slots-clause-goes g t c = stays _ _
+
+pub clauses::join_tuples-returns-in_err-items-clause-goes : goal.clauses::join_tuples-returns-in_err-items-clause-goes
+clauses::join_tuples-returns-in_err-items-clause-goes g t c = c.in_err-items.ensures.goes
+
+pub clauses::join_tuples-returns-in_err-items-clause-gives : goal.clauses::join_tuples-returns-in_err-items-clause-gives
+clauses::join_tuples-returns-in_err-items-clause-gives g t c = λ clean inside tuples_in.
+    let f = g.W.TreeSource.forest c.args.world.now in
+    let f' = g.W.TreeSource.forest c.at_tuple.new.world in
+    let held = c.args.frame in
+    let join = c.args.join.now in
+    let range = plan_mean c.args.range.now in
+    let tuples = c.args.tuples in
+    let outside = values_of held.slots.now in
     let e = c.in_err-items.field-0.0 in
+    let here = carried_at join.carried (outside ++ first_tuple tuples) in
+    let first = c.tuple.ensures ∙ first_is tuples in
+    let at : values_of c.deref.result.now ≡ outside ++ here = ap values_of c.deref.ensures.value ∙ c.in_ok-slots.ensures ∙ ap (λ u. outside ++ carried_at join.carried (outside ++ u)) first in
+    let first_in = subst (TupleIn f) (first_is tuples) (all_index (TupleIn f) tuples 0 [] tuples_in (omega arith)) in
+    let here_in = read_in f held join (first_tuple tuples) inside first_in in
+    handed_on (λ (ts : List (Tuple ItemView)). ts) tuples_at TuplesIn _ f' e c.from_residual-in_err-items.result c.from_residual-in_err-items.ensures.1
+    (join_stops f held join range tuples f' e (omega arith) (c.in_err-items.ensures.gives clean inside here at here_in))
+
+pub clauses::join_tuples-returns-then-is_steady-clause-goes : goal.clauses::join_tuples-returns-then-is_steady-clause-goes
+clauses::join_tuples-returns-then-is_steady-clause-goes g t c = goes_on_to c.in_ok-items.ensures.goes c.with_equal.ensures.goes
+
+pub clauses::join_tuples-returns-then-is_steady-clause-gives : goal.clauses::join_tuples-returns-then-is_steady-clause-gives
+clauses::join_tuples-returns-then-is_steady-clause-gives g t c = λ clean inside tuples_in.
+    let f = g.W.TreeSource.forest c.args.world.now in
+    let f' = g.W.TreeSource.forest c.at_tuple.new.world in
+    let held = c.args.frame in
+    let join = c.args.join.now in
+    let range = plan_mean c.args.range.now in
+    let tuples = c.args.tuples in
+    let outside = values_of held.slots.now in
+    let here = carried_at join.carried (outside ++ first_tuple tuples) in
+    let first = c.tuple.ensures ∙ first_is tuples in
+    let at : values_of c.deref.result.now ≡ outside ++ here = ap values_of c.deref.ensures.value ∙ c.in_ok-slots.ensures ∙ ap (λ u. outside ++ carried_at join.carried (outside ++ u)) first in
+    let first_in = subst (TupleIn f) (first_is tuples) (all_index (TupleIn f) tuples 0 [] tuples_in (omega arith)) in
+    let here_in = read_in f held join (first_tuple tuples) inside first_in in
+    let grows = c.in_ok-items.ensures.goes.grows in
+    let views = item_views c.in_ok-items.items in
+    let later_frame = frame_in_grown grows held inside in
+    let later_tuples = tuples_in_grown grows tuples tuples_in in
+    let given = c.in_ok-items.ensures.gives (c.with_equal.ensures.goes.was_clean clean) inside here at here_in in
+    let long : length f' ≡ length f = omega (arith, c.trees-trees.ensures, c.trees.ensures) in
+    join_steady f held join range views tuples f' (g.W.TreeSource.forest c.with_equal.new.world) c.with_equal.result (no_more f f' grows long) (c.if-is_steady.ensures refl) given.1
+    (c.with_equal.ensures.gives clean later_frame later_tuples given.0)
+
+pub clauses::join_tuples-returns-in_err-lists-clause-goes : goal.clauses::join_tuples-returns-in_err-lists-clause-goes
+clauses::join_tuples-returns-in_err-lists-clause-goes g t c = goes_on_to c.in_ok-items.ensures.goes c.in_err-lists.ensures.goes
+
+pub clauses::join_tuples-returns-in_err-lists-clause-gives : goal.clauses::join_tuples-returns-in_err-lists-clause-gives
+clauses::join_tuples-returns-in_err-lists-clause-gives g t c = λ clean inside tuples_in.
+    let f = g.W.TreeSource.forest c.args.world.now in
+    let f' = g.W.TreeSource.forest c.at_tuple.new.world in
+    let held = c.args.frame in
+    let join = c.args.join.now in
+    let range = plan_mean c.args.range.now in
+    let tuples = c.args.tuples in
+    let outside = values_of held.slots.now in
+    let here = carried_at join.carried (outside ++ first_tuple tuples) in
+    let first = c.tuple.ensures ∙ first_is tuples in
+    let at : values_of c.deref.result.now ≡ outside ++ here = ap values_of c.deref.ensures.value ∙ c.in_ok-slots.ensures ∙ ap (λ u. outside ++ carried_at join.carried (outside ++ u)) first in
+    let first_in = subst (TupleIn f) (first_is tuples) (all_index (TupleIn f) tuples 0 [] tuples_in (omega arith)) in
+    let here_in = read_in f held join (first_tuple tuples) inside first_in in
+    let grows = c.in_ok-items.ensures.goes.grows in
+    let views = item_views c.in_ok-items.items in
+    let later_frame = frame_in_grown grows held inside in
+    let later_tuples = tuples_in_grown grows tuples tuples_in in
+    let f'' = g.W.TreeSource.forest c.later_ranges.new.world in
+    let e = c.in_err-lists.field-0.0 in
+    let given = c.in_ok-items.ensures.gives (c.later_ranges.ensures.goes.was_clean clean) inside here at here_in in
+    handed_on (λ (ts : List (Tuple ItemView)). ts) tuples_at TuplesIn _ f'' e c.from_residual-in_err-lists.result c.from_residual-in_err-lists.ensures.1
+    (later_stops f held join range views tuples f' (omega arith) grows inside tuples_in given.1 f'' e (c.in_err-lists.ensures.gives clean later_frame later_tuples given.0))
+
+pub clauses::join_tuples-returns-in_err-pairs-clause-goes : goal.clauses::join_tuples-returns-in_err-pairs-clause-goes
+clauses::join_tuples-returns-in_err-pairs-clause-goes g t c = goes_on_to c.in_ok-items.ensures.goes c.in_ok-lists.ensures.goes
+
+pub clauses::join_tuples-returns-clause-goes : goal.clauses::join_tuples-returns-clause-goes
+clauses::join_tuples-returns-clause-goes g t c = goes_on_to (goes_on_to c.in_ok-items.ensures.goes c.in_ok-lists.ensures.goes) c.keep_equal.ensures.goes
+
+pub clauses::join_tuples-returns-clause-gives : goal.clauses::join_tuples-returns-clause-gives
+clauses::join_tuples-returns-clause-gives g t c = λ clean inside tuples_in.
+    let f = g.W.TreeSource.forest c.args.world.now in
+    let f' = g.W.TreeSource.forest c.at_tuple.new.world in
+    let held = c.args.frame in
+    let join = c.args.join.now in
+    let range = plan_mean c.args.range.now in
+    let tuples = c.args.tuples in
+    let outside = values_of held.slots.now in
+    let here = carried_at join.carried (outside ++ first_tuple tuples) in
+    let first = c.tuple.ensures ∙ first_is tuples in
+    let at : values_of c.deref.result.now ≡ outside ++ here = ap values_of c.deref.ensures.value ∙ c.in_ok-slots.ensures ∙ ap (λ u. outside ++ carried_at join.carried (outside ++ u)) first in
+    let first_in = subst (TupleIn f) (first_is tuples) (all_index (TupleIn f) tuples 0 [] tuples_in (omega arith)) in
+    let here_in = read_in f held join (first_tuple tuples) inside first_in in
+    let grows = c.in_ok-items.ensures.goes.grows in
+    let views = item_views c.in_ok-items.items in
+    let later_frame = frame_in_grown grows held inside in
+    let later_tuples = tuples_in_grown grows tuples tuples_in in
+    let f'' = g.W.TreeSource.forest c.later_ranges.new.world in
+    let clean2 = c.keep_equal.ensures.goes.was_clean clean in
+    let given = c.in_ok-items.ensures.gives (c.later_ranges.ensures.goes.was_clean clean2) inside here at here_in in
+    let values = c.in_ok-lists.ensures.gives clean2 later_frame later_tuples given.0 in
+    let more = extends_more grows c.later_ranges.ensures.goes.grows in
+    let lists = lists_of c.in_ok-lists.lists in
+    let pairs = c.in_ok-pairs.pairs in
+    let stream : pairs ≡ expanded Value false false tuples lists = c.in_ok-pairs.ensures.stream in
+    let pairs_in = subst (TuplesIn f'') (sym stream) (expanded_in f'' false false tuples lists (tuples_in_grown more tuples tuples_in) values.0) in
+    join_later f held join range views tuples f' (omega arith) grows inside tuples_in given.1 lists pairs f'' (g.W.TreeSource.forest c.keep_equal.new.world) c.keep_equal.result more values.1 stream
+    (c.keep_equal.ensures.gives clean (frame_in_grown more held inside) pairs_in)
+
+pub clauses::later_ranges-returns-in_err-lists-clause-goes : goal.clauses::later_ranges-returns-in_err-lists-clause-goes
+clauses::later_ranges-returns-in_err-lists-clause-goes g t c = stays _ _
+
+pub clauses::later_ranges-returns-in_err-push-clause-goes : goal.clauses::later_ranges-returns-in_err-push-clause-goes
+clauses::later_ranges-returns-in_err-push-clause-goes g t c = stays _ _
+
+pub clauses::later_ranges-loop-index-init : goal.clauses::later_ranges-loop-index-init
+clauses::later_ranges-loop-index-init g t c =
+    let old = g.W.TreeSource.forest c.args.world.now in
+    let held = c.args.frame in
+    let range = plan_mean c.args.range.now in
+    let views = item_views c.args.first in
+    let tuples = c.args.tuples.now in
+    let act = one_more (λ (t : Tuple Item). range (at_carried c.args.join.now (frame_at old held) t)) in
+    let pushed = c.in_ok-push.ensures.items ∙ ap (λ l. l ++ c.args.first ∷ []) c.in_ok-lists.ensures.items in
+    let one : lists_of c.push.new.self ≡ views ∷ [] = ap (map item_views) pushed in
+    record {
+      goes = stays _ _;
+      turns = record {
+        rest = λ clean inside. (
+          subst (TupleIn old) (sym one) (inside.2, tt),
+          ap (λ ls. in_turn act (tuple_at old ls) (map (tuple_at old) (drop 1 tuples)) old) one
+              ∙ ap (λ us. in_turn act (items_at old views ∷ []) us old) (sym (later_of (tuple_at old) tuples)),
+        );
+      };
+      long = ap length pushed;
+    }
+
+pub clauses::later_ranges-loop-index-preserved : goal.clauses::later_ranges-loop-index-preserved
+clauses::later_ranges-loop-index-preserved g t c =
+    let i = c.loop-index.invariant in
+    let old = g.W.TreeSource.forest c.args.world.now in
+    let f = g.W.TreeSource.forest c.loop-index.world in
+    let f' = g.W.TreeSource.forest c.next_value.new.world in
+    let held = c.args.frame in
+    let join = c.args.join.now in
+    let range = plan_mean c.args.range.now in
+    let n = c.loop-index.index in
+    let tuples = c.args.tuples.now in
     let x = values_of c.tuple.result.now in
-    let at : values_of c.deref.result.now ≡ values_of c.args.frame.slots.now ++ x = ap values_of c.deref.ensures.value ∙ c.in_ok-slots.ensures in
-    let tuple_in = subst (TupleIn f) (sym c.tuple.ensures) (all_index (TupleIn f) tuples 0 [] tuples_in some) in
-    let given = subst (λ (u : Tuple ItemView). GivesSequence (plan_mean source (at_tuple frame (tuple_at f u)) f) f' (Err e)) (c.tuple.ensures ∙ first_is tuples) (c.in_err-items.ensures.gives clean inside x at tuple_in) in
-    subst (λ (k : PlanClause). GivesMatched (plan_clause_mean k) (option_copied c.args.next) frame tuples f f' c.from_residual-in_err-items.result) (sym c.in-For.is)
-    (refused_gives (plan_clause_mean (clause.For c.in-For.empties c.in-For.at source)) (option_copied c.args.next) frame tuples f f' e c.from_residual-in_err-items.result c.from_residual-in_err-items.ensures.1 (for_refused c.in-For.empties c.in-For.at source frame f f' tuples e some given))
+    let lists = lists_of c.loop-index.lists in
+    let there = carried_at join.carried (values_of held.slots.now ++ x) in
+    let at : values_of c.deref.result.now ≡ values_of held.slots.now ++ there = ap values_of c.deref.ensures.value ∙ c.in_ok-slots.ensures in
+    record {
+      goes = goes_on_to i.goes c.next_value.ensures.goes;
+      turns = turns_next _ _ _ (lists_of c.in_ok-lists-2.lists) (tuple_at old x) _ _ i.turns (left_at (tuple_at old) tuples n x [] (omega arith) c.tuple.ensures) c.next_value.ensures.goes.was_clean
+          (λ clean inside is_in.
+          let x_in = element (TupleIn old) tuples n x [] inside.1 (omega arith) c.tuple.ensures in
+          let there_in = read_in old held join x inside.0 x_in in
+          let s = c.in_ok-lists-2.ensures.gives clean (frame_in_grown i.goes.grows held inside.0) is_in there at (tuple_in_grown i.goes.grows there there_in) in
+          (s.0, ap (λ fr. go_on (range fr f) (λ y. give (tuple_at f lists ++ y ∷ []))) (carried_grown old held join f i.goes.grows inside.0 x x_in) ∙ s.1));
+      long = c.in_ok-lists-2.ensures.long ∙ ap suc i.long ∙ sym (add-one n);
+    }
+
+pub clauses::later_ranges-returns-in_err-slots-clause-goes : goal.clauses::later_ranges-returns-in_err-slots-clause-goes
+clauses::later_ranges-returns-in_err-slots-clause-goes g t c = c.loop-index.invariant.goes
+
+pub clauses::later_ranges-returns-in_err-lists-2-clause-goes : goal.clauses::later_ranges-returns-in_err-lists-2-clause-goes
+clauses::later_ranges-returns-in_err-lists-2-clause-goes g t c = goes_on_to c.loop-index.invariant.goes c.in_err-lists-2.ensures.goes
+
+pub clauses::later_ranges-returns-in_err-lists-2-clause-gives : goal.clauses::later_ranges-returns-in_err-lists-2-clause-gives
+clauses::later_ranges-returns-in_err-lists-2-clause-gives g t c = λ clean inside tuples_in first_in.
+    let i = c.loop-index.invariant in
+    let old = g.W.TreeSource.forest c.args.world.now in
+    let f = g.W.TreeSource.forest c.loop-index.world in
+    let f' = g.W.TreeSource.forest c.next_value.new.world in
+    let held = c.args.frame in
+    let join = c.args.join.now in
+    let range = plan_mean c.args.range.now in
+    let n = c.loop-index.index in
+    let tuples = c.args.tuples.now in
+    let x = values_of c.tuple.result.now in
+    let lists = lists_of c.loop-index.lists in
+    let there = carried_at join.carried (values_of held.slots.now ++ x) in
+    let at : values_of c.deref.result.now ≡ values_of held.slots.now ++ there = ap values_of c.deref.ensures.value ∙ c.in_ok-slots.ensures in
+    let e = c.in_err-lists-2.field-0.0 in
+    handed_on lists_of tuple_at TupleIn _ f' e c.from_residual-in_err-lists-2.result c.from_residual-in_err-lists-2.ensures.1
+    (turns_stop _ _ _ lists_of tuple_at TupleIn (tuple_at old x) _ f' e i.turns (left_at (tuple_at old) tuples n x [] (omega arith) c.tuple.ensures) c.next_value.ensures.goes.was_clean
+    (λ clean inside is_in.
+    let x_in = element (TupleIn old) tuples n x [] inside.1 (omega arith) c.tuple.ensures in
+    let there_in = read_in old held join x inside.0 x_in in
+    subst (λ fr. GivesLists (go_on (range fr f) (λ y. give (tuple_at f lists ++ y ∷ []))) f' (Err e)) (sym (carried_grown old held join f i.goes.grows inside.0 x x_in))
+    (c.in_err-lists-2.ensures.gives clean (frame_in_grown i.goes.grows held inside.0) is_in there at (tuple_in_grown i.goes.grows there there_in))) clean (inside, tuples_in, first_in))
+
+pub clauses::later_ranges-returns-clause-goes : goal.clauses::later_ranges-returns-clause-goes
+clauses::later_ranges-returns-clause-goes g t c = c.loop-index.invariant.goes
+
+pub clauses::later_ranges-returns-clause-gives : goal.clauses::later_ranges-returns-clause-gives
+clauses::later_ranges-returns-clause-gives g t c = λ clean inside tuples_in first_in.
+    let old = g.W.TreeSource.forest c.args.world.now in
+    turns_end _ _ _ c.loop-index.invariant.turns (ap (map (tuple_at old)) (drop_all c.loop-index.index c.args.tuples.now (omega arith))) clean (inside, tuples_in, first_in)

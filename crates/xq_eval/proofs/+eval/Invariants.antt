@@ -4,7 +4,7 @@ use Rattle.std.specs.List.{AllByRecursion}
 use Rattle.xq_trees.specs.Items.{item_view, item_views}
 use Rattle.xq_meaning.specs.Doing.{in_turn, more, one_more, for_each, collected, first_that}
 use Rattle.xq_meaning.specs.Forms as Forms
-use Rattle.xq_meaning.specs.PlanMeaning.{Meaning, plan_mean, plan_clause_mean, plan_step_mean, at_tuple as meant_at, next_clause, next_step}
+use Rattle.xq_meaning.specs.PlanMeaning.{Meaning, plan_mean, plan_clause_mean, plan_step_mean, at_carried, at_tuple as meant_at, next_clause, next_step}
 use Rattle.xq_meaning.specs.Functions.{Focus as Spot}
 use Rattle.xq_meaning.specs.Items.{Item}
 use Rattle.xq_meaning.specs.declared.operators.Operator.{Operator}
@@ -96,8 +96,8 @@ invariant-evaluation::keep-loop-index g l =
       turns : Turns items_at AreIn (more (Forms.passed (plan_mean l.predicate) frame)) (inside × AreIn old (map item_view l.items)) clean (item_views l.kept) (focuses_from (suc l.index) (length l.items) (items_at old (map item_view (drop l.index l.items)))) now (Forms.filtered frame (items_at old (map item_view l.items)) (plan_mean l.predicate) old);
     }
 
-abbrev pub invariant-clauses::clause_list-loop-index : goal.invariant-clauses::clause_list-loop-index
-invariant-clauses::clause_list-loop-index g l =
+abbrev pub invariant-clauses::clause_list-loop-clause : goal.invariant-clauses::clause_list-loop-clause
+invariant-clauses::clause_list-loop-clause g l =
     let old = g.W.TreeSource.forest l.fn.world in
     let now = g.W.TreeSource.forest l.world in
     let frame = frame_at old l.frame in
@@ -105,8 +105,7 @@ invariant-clauses::clause_list-loop-index g l =
     let clean = g.W.TreeSource.is_clean l.world in
     record {
       goes : Goes old now (g.W.TreeSource.is_clean l.fn.world) clean;
-      turns : Turns tuples_at TuplesIn (next_clause frame) inside clean l.tuples (map plan_clause_mean (drop (l.index + (if l.is_taken then 1 else 0)) l.clauses)) now (in_turn (next_clause frame) ([] ∷ []) (map plan_clause_mean l.clauses) old);
-      within : l.index + (if l.is_taken then 1 else 0) ≤ length l.clauses;
+      turns : Turns tuples_at TuplesIn (next_clause frame) inside clean l.tuples (map plan_clause_mean (drop l.clause-index l.clauses)) now (in_turn (next_clause frame) ([] ∷ []) (map plan_clause_mean l.clauses) old);
     }
 
 abbrev pub invariant-clauses::values-loop-index : goal.invariant-clauses::values-loop-index
@@ -121,6 +120,20 @@ invariant-clauses::values-loop-index g l =
       turns : Turns tuple_at TupleIn (one_more (λ t. plan_mean l.part (meant_at frame t))) (inside × TuplesIn old l.tuples) clean (lists_of l.lists) (map (tuple_at old) (drop l.index l.tuples)) now (for_each (λ t. plan_mean l.part (meant_at frame t)) (tuples_at old l.tuples) old);
       long : length l.lists.items ≡ l.index;
       in_slots : take l.outer (values_of l.slots.items) ≡ values_of l.frame.slots.now;
+    }
+
+abbrev pub invariant-clauses::later_ranges-loop-index : goal.invariant-clauses::later_ranges-loop-index
+invariant-clauses::later_ranges-loop-index g l =
+    let old = g.W.TreeSource.forest l.fn.world in
+    let now = g.W.TreeSource.forest l.world in
+    let frame = frame_at old l.frame in
+    let first = item_views l.fn.first in
+    let clean = g.W.TreeSource.is_clean l.world in
+    let act = one_more (λ t. plan_mean l.range (at_carried l.join frame t)) in
+    record {
+      goes : Goes old now (g.W.TreeSource.is_clean l.fn.world) clean;
+      turns : Turns tuple_at TupleIn act (FrameIn old l.frame × TuplesIn old l.tuples × AreIn old first) clean (lists_of l.lists) (map (tuple_at old) (drop l.index l.tuples)) now (in_turn act (items_at old first ∷ []) (drop 1 (tuples_at old l.tuples)) old);
+      long : length l.lists.items ≡ l.index;
     }
 
 abbrev pub invariant-clauses::returned-loop-index : goal.invariant-clauses::returned-loop-index
@@ -335,8 +348,11 @@ decreases-paths::at_spot g a = 8 * goal.size-paths::at_spot g a + 5
 abbrev pub decreases-clauses::clause_list : goal.decreases-clauses::clause_list
 decreases-clauses::clause_list g a = 8 * goal.size-clauses::clause_list g a + 8
 
-abbrev pub decreases-clauses::matching_lists : goal.decreases-clauses::matching_lists
-decreases-clauses::matching_lists g a = 8 * goal.size-clauses::matching_lists g a + 6
+abbrev pub decreases-clauses::join_tuples : goal.decreases-clauses::join_tuples
+decreases-clauses::join_tuples g a = 8 * goal.size-clauses::join_tuples g a + 7
+
+abbrev pub decreases-clauses::later_ranges : goal.decreases-clauses::later_ranges
+decreases-clauses::later_ranges g a = 8 * goal.size-clauses::later_ranges g a + 6
 
 abbrev pub decreases-clauses::next_tuples : goal.decreases-clauses::next_tuples
 decreases-clauses::next_tuples g a = 8 * goal.size-clauses::next_tuples g a + 7

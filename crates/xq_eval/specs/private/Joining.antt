@@ -1,34 +1,23 @@
--- What a `for` gives together with the clause after it, where both are a join.
-use Rattle.std.specs.Prelude.{◌≡◌, List, Option, Some, None, Result, Ok, Err, false}
-use Rattle.std.specs.Global.{Vec}
-use Rattle.xq_atoms.specs.declared.refusals.Fault.{Fault}
-use Rattle.xq_trees.specs.declared.items.Item.{Item as Held}
-use Rattle.xq_trees.specs.Items.{ItemView, Value}
-use Rattle.xq_trees.specs.Tree.{Tree}
-use Rattle.xq_trees.specs.Tuples.{Tuple, expanded}
-use Rattle.xq_meaning.specs.declared.plans.PlanClause.{PlanClause}
-use Rattle.xq_meaning.specs.Doing.{◌>>=◌, give}
-use Rattle.xq_meaning.specs.PlanMeaning.{Frame, ClauseMeaning, plan_clause_mean}
-use Rattle.xq_operators.specs.Views.{tuples_at, lists_of, TuplesIn, GivesTuples}
+-- Ranges and keys of a join.
+use Rattle.std.specs.Prelude.{ℕ, List, [], ◌∷◌, Option, Some, None}
+use Rattle.xq_trees.specs.declared.Axis.{Axis}
+use Rattle.xq_trees.specs.Items.{ItemView}
+use Rattle.xq_trees.specs.Tuples.{Tuple, value_at}
+use Rattle.xq_meaning.specs.declared.node_tests.Test.{Test}
+use Rattle.xq_meaning.specs.Doing.{Doing}
+use Rattle.xq_meaning.specs.Forms as Forms
+use Rattle.xq_meaning.specs.Items.{Item}
 
--- what the next clause means, if there is one
-abbrev pub next_mean : Option PlanClause → ClauseMeaning
-next_mean None frame tuples = give tuples
-next_mean (Some next) frame tuples = plan_clause_mean next frame tuples
+-- the value of the slot that is carried, where one is
+abbrev pub carried_at : Option ℕ → Tuple ItemView → Tuple ItemView
+carried_at None slots = []
+carried_at (Some n) slots = value_at n slots ∷ []
 
--- both clauses give each tuple with each item of its list
-pub record AreBoth (first : ClauseMeaning) (next : Option PlanClause) (frame : Frame)
-    (tuples : List (Tuple ItemView)) (before after : List Tree) (lists : Tuple ItemView) : Type 0
-  where
-    pub inside : TuplesIn after (expanded Value false false tuples lists)
-    pub gives : (first frame (tuples_at before tuples) >>= next_mean next frame) before
-        ≡ (Ok (tuples_at after (expanded Value false false tuples lists)), after)
+-- the first of the tuples
+abbrev pub first_tuple : List (Tuple ItemView) → Tuple ItemView
+first_tuple [] = []
+first_tuple (t ∷ ts) = t
 
--- where it was not done nothing has changed; a refusal is that of the first clause
-abbrev pub GivesMatched : ClauseMeaning → Option PlanClause → Frame → List (Tuple ItemView) →
-    List Tree → List Tree → Result (Option (Vec (Vec Held))) Fault → Type 0
-GivesMatched first next frame tuples before after (Ok (Some lists)) =
-    AreBoth first next frame tuples before after (lists_of lists)
-GivesMatched first next frame tuples before after (Ok None) = after ≡ before
-GivesMatched first next frame tuples before after (Err fault) =
-    GivesTuples (first frame (tuples_at before tuples) before) after (Err fault)
+-- one scan
+abbrev pub scan_one : List Item → Axis × Test → Doing (List Item)
+scan_one xs s = Forms.scan s.0 s.1 xs

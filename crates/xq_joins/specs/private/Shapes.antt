@@ -1,4 +1,4 @@
--- The forms of plans that a join has.
+-- The forms of plans that compare keys.
 use Rattle.std.specs.Prelude.{◌≡◌, ℕ, List, [], ◌∷◌, ◌⊎◌}
 use Rattle.std.specs.List.{AllByRecursion}
 use Rattle.xq_atoms.specs.Text.{Text}
@@ -17,21 +17,10 @@ use Rattle.xq_meaning.specs.declared.plans.PlanStep.TheVariants as step
 abbrev pub IsScan : PlanStep → Type 0
 IsScan s = (axis : Axis) × (test : Test) × (s ≡ step.Scan axis test)
 
--- a string literal
-abbrev pub IsLiteral : Plan → Type 0
-IsLiteral p = (t : Text) × (p ≡ plan.Str t)
-
 -- a slot, or scans from it
 pub record IsKey (slot : ℕ) (steps : List PlanStep) (p : Plan) : Type 0 where
   pub form : ((p ≡ plan.Slot slot) × (steps ≡ [])) ⊎ (p ≡ plan.Path (plan.Slot slot) steps)
   pub scans : AllByRecursion IsScan steps
-
--- a call with literals as arguments
-pub record IsPlainCall (p : Plan) : Type 0 where
-  pub function : Function
-  pub parts : List Plan
-  pub is : p ≡ plan.Call function parts
-  pub literals : AllByRecursion IsLiteral parts
 
 -- a general comparison of two plans for equality
 abbrev pub equality : Plan → Plan → Plan

@@ -2,7 +2,7 @@
 use Rattle.std.specs.Prelude.{◌≡◌, List, [], ◌∷◌, map, Ok}
 use Rattle.xq_atoms.specs.Atom.{Atomic, String, Untyped}
 use Rattle.xq_atoms.specs.Text.{Text}
-use Rattle.xq_trees.specs.Items.{ItemView, Value}
+use Rattle.xq_trees.specs.Items.{ItemView, Place, Value}
 use Rattle.xq_trees.specs.Tree.{Tree}
 use Rattle.xq_trees.specs.Tuples.{Tuple}
 use Rattle.xq_meaning.specs.declared.plans.Plan.{Plan}
@@ -21,6 +21,11 @@ abbrev pub IsText : Atomic → Text → Type 0
 IsText (String s) t = s ≡ t
 IsText (Untyped s) t = s ≡ t
 IsText a t = ⊥
+
+-- the item is such a value
+abbrev pub IsTextItem : ItemView → Text → Type 0
+IsTextItem (Value a) t = IsText a t
+IsTextItem (Place n) t = ⊥
 
 -- the items are one such value
 pub record AreText (xs : List ItemView) (t : Text) : Type 0 where

@@ -10,5 +10,5 @@ invariant-loop-node g l =
     record {
       keeps : g.L.TreeSource.forest l.source ≡ old;
       was_clean : clean → g.L.TreeSource.is_clean l.fn.source;
-      table : clean → HaveAll old l.nodes → IsTable old l.steps (take l.node-index l.nodes) l.table;
+      table : clean → HaveAll old l.nodes → IsTable l.equality old l.key (take l.node-index l.nodes) l.table;
     }

@@ -1,4 +1,6 @@
-use Rattle.std.proofs.Common.{refl, sym, ap, ◌∙◌, subst, arith}
+use Rattle.std.proofs.Common.{◌++◌, ◌∷◌, [], refl, sym, ap, ◌∙◌, subst, arith}
+use Rattle.xq_meaning.specs.declared.plans.PlanClause.{PlanClause}
+use Rattle.xq_optimise.specs.private.Parts.{SameMany}
 use Rattle.xq_optimise.specs.private.Order.{SameRest}
 use Rattle.xq_optimise.proofs.Loops.{extends_itself, scope_left}
 use Rattle.xq_optimise.proofs.Rising.{none_arranged, clause_arranged, arranged_done}
@@ -12,7 +14,11 @@ loop-next-init c =
 
 pub loop-next-preserved : goal.loop-next-preserved
 loop-next-preserved c =
+    let next = c.in-Some.next in
+    let boxed = c.in_ok-next.ensures in
     clause_arranged c.args.list c.loop-next.left.items c.pop.new.self.items c.in_ok-left.left.items c.loop-next.found c.push.new.self c.len-outer.result
-    c.args.known.now.items c.loop-next.known.items c.follow.new.known.items c.in-Some.next
-    c.loop-next.invariant c.in-Some.ensures.items c.in_ok-follow.ensures.same c.in_ok-follow.ensures.outer c.in_ok-push.ensures.ok
+    c.args.known.now.items c.loop-next.known.items c.follow.new.known.items next
+    c.loop-next.invariant c.in-Some.ensures.items
+    (subst (λ (n : PlanClause). SameMany c.len-outer.result c.loop-next.known.items n (n ∷ []) c.follow.new.known.items) (c.get.ensures ∙ boxed) c.in_ok-follow.ensures.same)
+    c.in_ok-follow.ensures.outer (c.in_ok-push.ensures.ok ∙ ap (λ n. c.loop-next.found ++ n ∷ []) (c.into_inner.ensures ∙ boxed))
     (λ n. subst (λ k. SameRest n k c.pop.new.self.items c.in_ok-left.left.items) c.deref-in-Some.ensures.value (c.in_ok-left.ensures.same n))

@@ -1,6 +1,7 @@
 use Rattle.std.proofs.Common.{refl, subst}
 use Rattle.std.proofs.lemmas.Result.{on_ok_weaker}
 use Rattle.xq_optimise.specs.private.Parts.{IsHeld}
+use Rattle.xq_optimise.proofs.JoinLaws.{join_itself}
 use Rattle.xq_optimise.proofs.Loops.{extends_bound, extends_itself, extends_more}
 use Rattle.xq_optimise.proofs.Rising.{for_itself, let_itself, where_itself, order_itself, count_itself, group_itself, refused_itself}
 use Rattle.xq_optimise.proofs.order.follow.Goals as goal
@@ -10,6 +11,11 @@ returns-in-For-clause-same c =
     on_ok_weaker c.bind.result
     (for_itself c.args.outer c.args.known.now.items c.bind.new.known.items c.args.next.now c.in-For.field-0 c.in-For.at c.in-For.range c.held_by-held.result c.in-For.is
     (subst (λ k. IsHeld k c.held_by-held.result c.in-For.range) c.deref.ensures.value c.held_by-held.ensures)) c.bind.ensures
+
+pub returns-in-Join-clause-same : goal.returns-in-Join-clause-same
+returns-in-Join-clause-same c =
+    on_ok_weaker c.bind-in-Join.result
+    (join_itself c.args.outer c.args.known.now.items c.bind-in-Join.new.known.items c.args.next.now c.in-Join.field-0 c.in-Join.field-1 c.in-Join.is) c.bind-in-Join.ensures
 
 pub returns-in-Let-clause-same : goal.returns-in-Let-clause-same
 returns-in-Let-clause-same c =

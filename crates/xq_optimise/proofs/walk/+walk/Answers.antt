@@ -11,10 +11,12 @@ use Rattle.xq_optimise.specs.private.Parts.{AreAll, SameOperand, SameCall, SameK
 use Rattle.xq_optimise.proofs.Forms as forms
 use Rattle.xq_optimise.proofs.Forms.{gives_at, known_at, all_known_at, itself, step_itself, each_gives}
 use Rattle.xq_optimise.proofs.Flwor.{flwor_gives}
+use Rattle.xq_optimise.specs.private.Joins.{SameList}
 use Rattle.xq_optimise.specs.private.Order.{SameTurns}
 use Rattle.xq_optimise.proofs.Rising.{flwor_sorted}
 use Rattle.xq_optimise.proofs.Splitting.{step_same_on}
 use Rattle.xq_optimise.proofs.Ranges.{quantified_gives, held_of_same}
+use Rattle.xq_optimise.proofs.JoinLaws.{turns_then, join_adds}
 use Rattle.xq_optimise.proofs.Loops.{left_none, left_next, left_done, left_size, turned_size, no_ranges, range_next, ranges_done, no_clauses, clause_added, clauses_done, for_adds, let_adds, tests_add, order_adds, count_adds, group_adds, refused_adds, adds_at, extends_bound, extends_itself, extends_more, scope_left, ranges_left}
 use Rattle.xq_optimise.proofs.walk.+walk.Goals as goal
 
@@ -176,14 +178,17 @@ flwor-returns-clause-same t c =
     let known = c.args.known.now.items in
     let list = c.in_ok-list.list in
     let part = c.in_ok-part.part in
-    let found = c.in_ok-sorted.sorted in
+    let sorted = c.in_ok-sorted.sorted in
+    let joined = c.in_ok-joined.joined in
     let kept = scope_left c.len-outer.result known c.clauses.new.known.items c.boxed.new.known.items c.truncate.new.self.items (c.len-outer.ensures ∙ c.args.known.now.ok.0)
     c.in_ok-list.ensures.outer.outer c.in_ok-part.ensures.kept c.truncate.ensures.items in
-    forms.then_gives known (plan.Flwor c.args.list c.args.part) (plan.Flwor list part) (plan.Flwor found part)
+    forms.then_gives known (plan.Flwor c.args.list c.args.part) (plan.Flwor list part) (plan.Flwor joined part)
     (flwor_gives known c.clauses.new.known.items c.args.list list c.args.part part
     (subst (λ n. SameClauses n known c.args.list list c.clauses.new.known.items) (c.len-outer.ensures ∙ c.args.known.now.ok.0) c.in_ok-list.ensures.same)
     c.in_ok-part.ensures.same)
-    (flwor_sorted known list found part (subst (λ k. SameTurns (length k) k list found) kept c.in_ok-sorted.ensures.same))
+    (flwor_sorted known list joined part (turns_then (length known) known list sorted joined
+    (subst (λ k. SameTurns (length k) k list sorted) kept c.in_ok-sorted.ensures.same)
+    (subst (λ n. SameList n sorted joined) (c.len-outer.ensures ∙ c.args.known.now.ok.0) c.in_ok-joined.ensures)))
 
 pub flwor-returns-clause-kept : goal.flwor-returns-clause-kept
 flwor-returns-clause-kept t c =
@@ -243,9 +248,16 @@ clause-returns-in_ok-list-in-Order-clause-same t c =
     c.in_ok-list-in-Order.ensures.same c.in_ok-list-in-Order.ensures.kept h))
     c.pushed-in-Order.ensures
 
+pub clause-returns-in_ok-push-in-Join-clause-same : goal.clause-returns-in_ok-push-in-Join-clause-same
+clause-returns-in_ok-push-in-Join-clause-same t c =
+    IfOk-weaker c.pushed-in-Join.result _ _
+    (λ after h. adds_at c.args.outer c.args.known.now.items c.args.next (clause.Join c.in-Join.range c.in-Join.join) c.args.found after c.push.new.self.items c.in-Join.is
+    (join_adds c.args.outer c.args.known.now.items c.push.new.self.items c.in-Join.range c.in-Join.join c.args.found after c.in_ok-push-in-Join.ensures.items h))
+    c.pushed-in-Join.ensures
+
 pub clause-returns-in_ok-push-in-Count-clause-same : goal.clause-returns-in_ok-push-in-Count-clause-same
 clause-returns-in_ok-push-in-Count-clause-same t c =
     IfOk-weaker c.pushed-in-Count.result _ _
-    (λ after h. adds_at c.args.outer c.args.known.now.items c.args.next clause.Count c.args.found after c.push.new.self.items c.in-Count.is
-    (count_adds c.args.outer c.args.known.now.items c.push.new.self.items c.args.found after c.in_ok-push-in-Count.ensures.items h))
+    (λ after h. adds_at c.args.outer c.args.known.now.items c.args.next clause.Count c.args.found after c.push-in-Count.new.self.items c.in-Count.is
+    (count_adds c.args.outer c.args.known.now.items c.push-in-Count.new.self.items c.args.found after c.in_ok-push-in-Count.ensures.items h))
     c.pushed-in-Count.ensures

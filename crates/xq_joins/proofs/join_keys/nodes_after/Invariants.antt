@@ -1,0 +1,18 @@
+use Rattle.std.proofs.Common.{◌≡◌, map, drop}
+use Rattle.xq_axes.specs.Nodes.{HaveAll}
+use Rattle.xq_meaning.specs.Readings.{node_at}
+use Rattle.xq_joins.specs.Keys.{nodes_after}
+use Rattle.xq_joins.proofs.join_keys.nodes_after.Given as goal
+
+-- the scans that are left lead to what all scans lead to
+abbrev pub invariant-loop-axis : goal.invariant-loop-axis
+invariant-loop-axis g l =
+    let old = g.L.TreeSource.forest l.fn.source in
+    let clean = g.L.TreeSource.is_clean l.source in
+    let start = l.fn.start.items in
+    record {
+      keeps : g.L.TreeSource.forest l.source ≡ old;
+      was_clean : clean → g.L.TreeSource.is_clean l.fn.source;
+      there : clean → HaveAll old start → HaveAll old l.nodes.items;
+      nodes : clean → HaveAll old start → nodes_after old (drop l.axis-index l.scans) (map (node_at old) l.nodes.items) ≡ nodes_after old l.scans (map (node_at old) start);
+    }
