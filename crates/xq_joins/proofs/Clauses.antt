@@ -24,7 +24,8 @@ use Rattle.xq_operators.specs.Views.{tuple_at, tuples_at, TupleIn}
 use Rattle.xq_operators.proofs.Natural.{expanded_natural, kept_natural}
 use Rattle.xq_operators.proofs.Streams.{value_read}
 use Rattle.xq_joins.specs.Joins.{all_pairs, Matches}
-use Rattle.xq_joins.specs.Keys.{IsNode, places_among, meet}
+use Rattle.xq_joins.specs.Keys.{IsNode, meet}
+use Rattle.xq_joins.specs.private.Keys.{places_among}
 use Rattle.xq_joins.specs.private.JoinKeys.{join_texts, IsTold, AreSides}
 use Rattle.xq_joins.specs.private.Tables.{matched}
 use Rattle.xq_joins.proofs.JoinKeys.{sides_meet}

@@ -23,7 +23,8 @@ use Rattle.xq_joins.specs.declared.pairs.KeyPair.{KeyPair}
 use Rattle.xq_joins.specs.declared.keyed.Keyed.{Keyed}
 use Rattle.xq_joins.specs.declared.keyed.KeyedTest.{KeyedTest}
 use Rattle.xq_joins.specs.Keyed.{leads_to_key, passes_key, first_with}
-use Rattle.xq_joins.specs.Keys.{IsNode, scan_in, scans, text_at, key_texts, meet, places_among}
+use Rattle.xq_joins.specs.Keys.{IsNode, text_at, meet}
+use Rattle.xq_joins.specs.private.Keys.{scan_in, scans, key_texts, places_among}
 use Rattle.xq_joins.specs.private.Keyed.{ComparesNext, HasTexts, decided}
 use Rattle.xq_joins.specs.private.Pairs.{IsTest}
 use Rattle.xq_joins.proofs.Clauses.{value_front, value_last}

@@ -17,7 +17,8 @@ use Rattle.xq_meaning.specs.declared.joins.JoinKey.{JoinKey}
 use Rattle.xq_meaning.specs.Readings.{node_at}
 use Rattle.xq_meaning.proofs.PathLemmas.{filter-map}
 use Rattle.xq_operators.specs.Nodes.{nodes_among}
-use Rattle.xq_joins.specs.Keys.{IsNode, meet, places_among}
+use Rattle.xq_joins.specs.Keys.{IsNode, meet}
+use Rattle.xq_joins.specs.private.Keys.{places_among}
 use Rattle.xq_joins.specs.private.JoinKeys.{join_texts, IsKeyOf, IsTold}
 use Rattle.xq_joins.specs.private.Tables.{nodes_with, has_key, IsTable}
 use Rattle.xq_trees.proofs.Lists.{all_append}

@@ -29,7 +29,8 @@ use Rattle.xq_meaning.specs.Items.{Place, Item, Node, Atom, atom_of, atomized}
 use Rattle.xq_meaning.specs.Operators.{or_rest, some_with, some_pair, operated, by_value}
 use Rattle.xq_meaning.specs.PlanMeaning.{Frame, comparison, formed, key_from, key_mean, keys_equal}
 use Rattle.xq_meaning.specs.Readings.{node_at, items_at}
-use Rattle.xq_joins.specs.Keys.{IsNode, nodes_after, places_among, text_at, meet}
+use Rattle.xq_joins.specs.Keys.{IsNode, text_at, meet}
+use Rattle.xq_joins.specs.private.Keys.{nodes_after, places_among}
 use Rattle.xq_joins.specs.private.JoinKeys.{AreTexts, LeadsTo, FormsAs, IsKeyOf, IsTold, texts_given, join_texts, AreSides}
 use Rattle.xq_joins.specs.private.Texts.{IsText, IsTextItem}
 use Rattle.xq_joins.proofs.Meeting.{typed_is_text, plain, compared, node_text, or_none, or_is, meet_swap}

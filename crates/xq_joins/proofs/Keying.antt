@@ -19,7 +19,8 @@ use Rattle.xq_joins.specs.declared.keyed.Keyed.{Keyed}
 use Rattle.xq_joins.specs.declared.keyed.KeyedTest.{KeyedTest}
 use Rattle.xq_joins.specs.Equalities.{leads_to_text, passes_text, at_node}
 use Rattle.xq_joins.specs.Keyed.{leads_to_key, passes_key, IsKeyedTest}
-use Rattle.xq_joins.specs.Keys.{IsNode, scans, nodes_after, text_at, key_texts, meet, places_among}
+use Rattle.xq_joins.specs.Keys.{IsNode, text_at, meet}
+use Rattle.xq_joins.specs.private.Keys.{scans, nodes_after, key_texts, places_among}
 use Rattle.xq_joins.specs.private.Keyed.{ComparesKey, HasTexts}
 use Rattle.xq_joins.specs.private.Shapes.{IsKey, equality}
 use Rattle.xq_joins.proofs.Clauses.{filter_same}

@@ -21,7 +21,8 @@ use Rattle.xq_meaning.specs.PlanMeaning.{Frame, Meaning, next_step, plan_mean, p
 use Rattle.xq_meaning.proofs.PlanEquations.{plan-Call, plan-Chain, plan-Path, plan-Slot, plan-Str}
 use Rattle.xq_meaning.proofs.SameForms.{AreRelated, go_on_same, in_turn_same}
 use Rattle.xq_joins.specs.declared.pairs.Key.{Key}
-use Rattle.xq_joins.specs.Keys.{scans, nodes_after, text_at, key_texts, meet}
+use Rattle.xq_joins.specs.Keys.{text_at, meet}
+use Rattle.xq_joins.specs.private.Keys.{scans, nodes_after, key_texts}
 use Rattle.xq_joins.specs.private.Pairs.{IsTest}
 use Rattle.xq_joins.specs.private.Shapes.{IsKey, equality}
 use Rattle.xq_joins.proofs.Meeting.{meet_swap, pairs_meet}

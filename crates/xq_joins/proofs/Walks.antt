@@ -18,7 +18,7 @@ use Rattle.xq_meaning.specs.Steps.{axis_nodes}
 use Rattle.xq_meaning.proofs.PlanEquations.{step-Scan}
 use Rattle.xq_meaning.proofs.SameForms.{AreRelated, in_turn_same}
 use Rattle.xq_operators.proofs.NodeLemmas.{are_nodes}
-use Rattle.xq_joins.specs.Keys.{scan_in, scans, nodes_after}
+use Rattle.xq_joins.specs.private.Keys.{scan_in, scans, nodes_after}
 use Rattle.xq_joins.specs.private.Shapes.{IsScan}
 
 -- # Evaluations that construct nothing

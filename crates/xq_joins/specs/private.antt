@@ -1,3 +1,4 @@
+pub mod Keys
 pub mod Shapes
 pub mod Pairs
 pub mod JoinKeys

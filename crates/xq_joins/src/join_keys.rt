@@ -5,7 +5,7 @@ ghost use Rattle.xq_trees.specs.Items.{item_view};
 ghost use Rattle.xq_trees.specs.Tree.{Tree};
 ghost use Rattle.xq_meaning.specs.Items.{atomized};
 ghost use Rattle.xq_meaning.specs.Readings.{node_at, items_at, AreIn};
-ghost use Rattle.xq_joins.specs.Keys.{nodes_after as nodes_after_lem};
+ghost use Rattle.xq_joins.specs.private.Keys.{nodes_after as nodes_after_lem};
 ghost use Rattle.xq_joins.specs.private.JoinKeys.{AreTexts, LeadsTo, FormsAs, IsKeyOf};
 ghost use Rattle.xq_joins.specs.private.Texts.{IsTextItem};
 

@@ -7,7 +7,8 @@ ghost use Rattle.xq_trees.specs.declared.items.Node.{Node as NodeLem};
 ghost use Rattle.xq_sources.specs.Sources.{HasNode};
 ghost use Rattle.xq_trees.specs.Items.{item_view, Place};
 ghost use Rattle.xq_meaning.specs.Readings.{node_at, AreIn};
-ghost use Rattle.xq_joins.specs.Keys.{scans, nodes_after as nodes_after_lem, text_at, texts_from};
+ghost use Rattle.xq_joins.specs.Keys.{text_at};
+ghost use Rattle.xq_joins.specs.private.Keys.{scans, nodes_after as nodes_after_lem, texts_from};
 ghost use Rattle.xq_joins.specs.private.JoinKeys.{IsKeyOf};
 ghost use Rattle.xq_joins.specs.private.Tables.{IsTable, nodes_with};
 

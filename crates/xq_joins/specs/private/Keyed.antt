@@ -16,7 +16,8 @@ use Rattle.xq_sources.specs.Sources.{HasNode}
 use Rattle.xq_joins.specs.declared.keyed.Keyed.{Keyed}
 use Rattle.xq_joins.specs.declared.keyed.KeyedTest.{KeyedTest}
 use Rattle.xq_joins.specs.Equalities.{at_node}
-use Rattle.xq_joins.specs.Keys.{IsNode, scans, text_at, key_texts, texts_from, meet}
+use Rattle.xq_joins.specs.Keys.{IsNode, text_at, meet}
+use Rattle.xq_joins.specs.private.Keys.{scans, key_texts, texts_from}
 
 -- where the slot of the key holds nodes, the plan says of a node whether the step leads from it to
 -- one that has a text of the key, and refuses and constructs nothing

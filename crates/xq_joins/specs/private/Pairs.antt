@@ -7,7 +7,8 @@ use Rattle.xq_meaning.specs.Forms as Forms
 use Rattle.xq_meaning.specs.Items.{Place, Node}
 use Rattle.xq_meaning.specs.PlanMeaning.{Frame, plan_mean}
 use Rattle.xq_joins.specs.declared.pairs.KeyPair.{KeyPair}
-use Rattle.xq_joins.specs.Keys.{scans, key_texts, meet}
+use Rattle.xq_joins.specs.Keys.{meet}
+use Rattle.xq_joins.specs.private.Keys.{scans, key_texts}
 
 -- where the slots of both keys hold nodes, the test says whether a text of the one key is a text of
 -- the other, and refuses and constructs nothing

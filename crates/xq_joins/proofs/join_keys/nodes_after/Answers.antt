@@ -6,7 +6,7 @@ use Rattle.xq_trees.specs.Tree.{Tree}
 use Rattle.xq_meaning.specs.Items.{in_document_order}
 use Rattle.xq_meaning.specs.Readings.{node_at}
 use Rattle.xq_meaning.specs.Steps.{axis_nodes}
-use Rattle.xq_joins.specs.Keys.{nodes_after}
+use Rattle.xq_joins.specs.private.Keys.{nodes_after}
 use Rattle.xq_joins.proofs.Lists.{left_first}
 use Rattle.xq_joins.proofs.join_keys.nodes_after.Goals as goal
 

@@ -7,7 +7,8 @@ use Rattle.xq_trees.specs.Tree.{Tree}
 use Rattle.xq_meaning.specs.Items.{atomized}
 use Rattle.xq_meaning.specs.Readings.{node_at, items_at}
 use Rattle.xq_operators.proofs.NodeLemmas.{among_in}
-use Rattle.xq_joins.specs.Keys.{nodes_after, text_at}
+use Rattle.xq_joins.specs.Keys.{text_at}
+use Rattle.xq_joins.specs.private.Keys.{nodes_after}
 use Rattle.xq_joins.specs.private.JoinKeys.{AreTexts, LeadsTo}
 use Rattle.xq_joins.proofs.Lists.{if_some, none_left}
 use Rattle.xq_joins.proofs.Found.{places_are}

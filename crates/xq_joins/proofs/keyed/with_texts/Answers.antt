@@ -6,7 +6,8 @@ use Rattle.xq_trees.specs.Tuples.{value_at}
 use Rattle.xq_tuples.specs.Views.{values_of}
 use Rattle.xq_meaning.specs.Readings.{AreIn}
 use Rattle.xq_operators.proofs.Growth.{value_in}
-use Rattle.xq_joins.specs.Keys.{IsNode, texts_from}
+use Rattle.xq_joins.specs.Keys.{IsNode}
+use Rattle.xq_joins.specs.private.Keys.{texts_from}
 use Rattle.xq_joins.proofs.keyed.with_texts.Goals as goal
 
 pub returns-clause-texts : goal.returns-clause-texts

@@ -6,7 +6,8 @@ use Rattle.xq_trees.specs.Items.{item_view}
 use Rattle.xq_trees.specs.Tree.{Tree}
 use Rattle.xq_meaning.specs.Readings.{node_at}
 use Rattle.xq_operators.proofs.NodeLemmas.{among_in}
-use Rattle.xq_joins.specs.Keys.{scans, nodes_after, text_at, texts_from}
+use Rattle.xq_joins.specs.Keys.{text_at}
+use Rattle.xq_joins.specs.private.Keys.{scans, nodes_after, texts_from}
 use Rattle.xq_joins.proofs.Lists.{if_ok}
 use Rattle.xq_joins.proofs.Found.{places_are}
 use Rattle.xq_joins.proofs.keys.key_texts.Goals as goal

@@ -1,7 +1,7 @@
 use Rattle.std.proofs.Common.{◌≡◌, map, drop}
 use Rattle.xq_axes.specs.Nodes.{HaveAll}
 use Rattle.xq_meaning.specs.Readings.{node_at}
-use Rattle.xq_joins.specs.Keys.{scans, nodes_after}
+use Rattle.xq_joins.specs.private.Keys.{scans, nodes_after}
 use Rattle.xq_joins.proofs.keys.nodes_after.Given as goal
 
 -- the steps that are left lead to what all steps lead to
