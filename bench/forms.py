@@ -7,8 +7,8 @@
 
 bench/forms.toml has the questions, each in several forms that give the same result. Without
 another word each form is asked over a document of 20,000 elements, and shown are the least
-milliseconds, and how many times as long as the fastest form of its question that is. A form that
-takes more than 3 times as long, and more than a millisecond, is a cliff.
+milliseconds of the processor, and how many times as long as the fastest form of its question that
+is. A form that takes more than 3 times as long, and more than a millisecond, is a cliff.
 
 With --engines, over 100,000 elements where no number is named, each form is timed in turn with the
 engines that are installed (bench/engines.py). Wanted is at most the time of the lesser engine on
@@ -136,7 +136,7 @@ def asked(question: Question, engines: Sequence[Engine], turns: int) -> Answers:
         if others:
             faults.append(f"ANOTHER RESULT of {', '.join(others)}: {form}")
         for name, of in spent.items():
-            times[name].append(Times.of([it.whole for it in of]))
+            times[name].append(Times.of([it.processor for it in of]))
     return Answers(question, times, faults)
 
 
@@ -189,7 +189,7 @@ def least_times(command: Command, elements: int, wanted: Sequence[Question]
     program.put(document(elements))
     for question in wanted:
         for form in question.forms:
-            yield form, Times.of([it.whole for it in runs(program, form)]).least
+            yield form, Times.of([it.processor for it in runs(program, form)]).least
     program.end()
 
 
