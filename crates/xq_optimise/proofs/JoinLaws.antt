@@ -34,7 +34,7 @@ use Rattle.xq_meaning.proofs.SameForms.{AreRelated, then_same, go_on_same, in_tu
 use Rattle.xq_meaning.proofs.Turns.{go_on_give, in_turn-append}
 use Rattle.xq_optimise.specs.declared.held.Held.{Held}
 use Rattle.xq_optimise.specs.declared.held.Held.TheVariants.{Anything}
-use Rattle.xq_optimise.specs.private.Joins.{scan_step, equal_plan, StartsAt, IsKey, IsKeys, IsLiteral, IsRenamed, ReadsOutside, Carries, SameList, AddsJoin}
+use Rattle.xq_optimise.specs.private.Joins.{scan_step, equal_plan, StartsAt, IsKey, IsKeys, IsRenamed, ReadsOutside, Carries, SameList, AddsJoin}
 use Rattle.xq_optimise.specs.private.Order.{SameTurns}
 use Rattle.xq_optimise.specs.private.Parts.{GivesHeld, IsScan, AllFit, GivesFitting, Follows, SameClause, SameMany, SameClauses, AddsClauses}
 use Rattle.xq_optimise.proofs.Below.{scans_alike}
@@ -119,11 +119,6 @@ keys_are join equality p left right is e l r frame f =
 
 -- # Ranges
 
-value_outside : (n : ℕ) (slots more : Slots) → n < length slots → value_at n (slots ++ more) ≡ value_at n slots
-value_outside n [] more h = absurd (omega arith)
-value_outside zero (x ∷ slots) more h = refl
-value_outside (suc n) (x ∷ slots) more h = value_outside n slots more (omega (arith, h))
-
 pub value_next : (slots : Slots) (xs : List Item) → value_at (length slots) (slots ++ xs ∷ []) ≡ xs
 value_next [] xs = refl
 value_next (x ∷ slots) xs = value_next slots xs
@@ -145,47 +140,6 @@ scans_from old new p q is slots others focus addresses f same =
           (λ xs g. in_turn_same (next_step there) (next_step here) (map plan_step_mean e.0) (map plan_step_mean e.0) (scans_alike there here e.0 e.3) xs g)
           ∙ sym (ap (λ m. m here f) (ap plan_mean e.1 ∙ plan_eq.plan-Path (plan.Slot old) e.0)))
     ]
-
-pub slot_outside : (outer slot : ℕ) (p : Plan) → IsRenamed slot slot p p → slot < outer → ReadsOutside outer p
-slot_outside outer slot p is below slots more focus addresses f at =
-    elim at [
-      | inl none ↦ absurd (omega (arith, none, below))
-      | inr e ↦ scans_from slot slot p p is slots (slots ++ more) focus addresses f (value_outside slot slots more (omega (arith, e, below)))
-    ]
-
--- a call with literals reads no slot
-literals_same : (here there : Frame) (parts : List Plan) → AllByRecursion IsLiteral parts →
-    AreRelated (λ (m n : Meaning). (done : List (List Item)) (f : List Tree) → one_more (λ (part : Meaning). part here) done m f ≡ one_more (λ (part : Meaning). part there) done n f) (map plan_mean parts) (map plan_mean parts)
-literals_same here there [] all = tt
-literals_same here there (p ∷ parts) all =
-    let e = ap plan_mean all.0.1 ∙ plan_eq.plan-Str all.0.0 in (
-      λ done f. ap (λ o. go_on o (λ y. give (done ++ y ∷ []))) (ap (λ m. m here f) e ∙ sym (ap (λ m. m there f) e)),
-      literals_same here there parts all.1,
-    )
-
-pub call_outside : (name : Function) (parts : List Plan) (p : Plan) → p ≡ plan.Call name parts → AllByRecursion IsLiteral parts → ReadsOutside 0 p
-call_outside name parts p is all slots more focus addresses f at =
-    let here = frame_of (slots ++ more) focus addresses in
-    let there = frame_of slots focus addresses in
-    let e = ap plan_mean is ∙ plan_eq.plan-Call name parts in
-    ap (λ m. m here f) e
-    ∙ ap (λ o. go_on o (λ values. on_trees (λ trees. called name trees addresses focus values)))
-    (in_turn_same (one_more (λ (part : Meaning). part here)) (one_more (λ (part : Meaning). part there)) (map plan_mean parts) (map plan_mean parts) (literals_same here there parts all) [] f)
-    ∙ sym (ap (λ m. m there f) e)
-
-pub path_outside : (start : Plan) (steps : List PlanStep) (p : Plan) → p ≡ plan.Path start steps → ReadsOutside 0 start → AllByRecursion IsScan steps → ReadsOutside 0 p
-path_outside start steps p is h all slots more focus addresses f at =
-    let here = frame_of (slots ++ more) focus addresses in
-    let there = frame_of slots focus addresses in
-    let e = ap plan_mean is ∙ plan_eq.plan-Path start steps in
-    ap (λ m. m here f) e
-    ∙ then_same (plan_mean start here f) (plan_mean start there f) (λ xs. in_turn (next_step here) xs (map plan_step_mean steps)) (λ xs. in_turn (next_step there) xs (map plan_step_mean steps))
-    (h slots more focus addresses f at)
-    (λ xs g. in_turn_same (next_step here) (next_step there) (map plan_step_mean steps) (map plan_step_mean steps) (scans_alike here there steps all) xs g)
-    ∙ sym (ap (λ m. m there f) e)
-
-pub plain_outside : (outer : ℕ) (p : Plan) → ReadsOutside 0 p → ReadsOutside outer p
-plain_outside outer p h slots more focus addresses f at = h slots more focus addresses f (inl refl)
 
 -- # Clauses
 

@@ -17,3 +17,4 @@ pub mod NodesAtOnce
 pub mod WholePaths
 pub mod Rising
 pub mod JoinLaws
+pub mod SlotsOutside

@@ -2,16 +2,16 @@
 //! equality, where the range starts from a document, from a slot outside or from one slot of the
 //! tuples (XQuery 3.1, sections 3.7, 3.12.2 and 3.12.5).
 ghost use Rattle.std.specs.Prelude.{◌≡◌, ◌∷◌, ◌++◌, [], ℕ, IfOk, IfSome, map, false, true};
-ghost use Rattle.std.specs.List.{AllByRecursion};
 ghost use Rattle.xq_expressions.specs.declared.operators.AllowingEmpty.TheVariants as allowing;
 ghost use Rattle.xq_meaning.specs.declared.plans.Plan.{Plan as PlanLem};
 ghost use Rattle.xq_meaning.specs.declared.plans.Plan.TheVariants as plan_of;
 ghost use Rattle.xq_meaning.specs.declared.plans.PlanClause.TheVariants as clause_of;
 ghost use Rattle.xq_meaning.specs.PlanMeaning.{comparison};
-ghost use Rattle.xq_optimise.specs.private.Joins.{IsLiteral, IsKey, IsKeys, StartsAt, ReadsOutside, Carries, IsRenamed, scan_step, equal_plan, AddsJoin, SameList};
+ghost use Rattle.xq_optimise.specs.private.Joins.{IsKey, IsKeys, StartsAt, ReadsOutside, Carries, IsRenamed, scan_step, equal_plan, AddsJoin, SameList};
 
 use crate::kinds::are_scans;
 use crate::lists::reversed;
+use crate::outside::reads_outside;
 use crate::wheres::pushed;
 use sqlite_items::{Boxed, Items};
 use std::alloc::{AllocError, Global};
@@ -191,35 +191,16 @@ fn start_slot(plan: &Plan) -> Option<usize>
     }
 }
 
-/// Whether all plans are string literals.
-fn are_literals(parts: &[Plan]) -> bool
-    ensures { result ≡ true → AllByRecursion IsLiteral parts.now }
-{
-    for part in parts {
-        let Plan::Str(_) = part else {
-            return false;
-        };
-    }
-    true
-}
-
-/// Whether the plan is a call with literals as arguments, as `doc("x")`.
-fn is_plain_call(plan: &Plan) -> bool
-    ensures { result ≡ true → ReadsOutside 0 plan.now }
-{
-    let Plan::Call(_, parts) = plan else {
-        return false;
-    };
-    are_literals(parts.as_slice())
-}
-
-/// Whether the plan is scans from such a call, or the call.
-fn is_plain(plan: &Plan) -> bool
-    ensures { result ≡ true → ReadsOutside 0 plan.now }
-{
-    match plan {
-        Plan::Path(start, steps) => is_plain_call(start.get()) && are_scans(steps.as_slice()),
-        _ => is_plain_call(plan),
+/// Whether a range may give nodes or texts, of which a join makes a table. (Numbers are compared
+/// faster by the test.)
+fn may_give_texts(range: &Plan) -> bool {
+    match range {
+        Plan::Slot(_)
+        | Plan::Path(_, _)
+        | Plan::Filter(_, _)
+        | Plan::Map(_, _)
+        | Plan::Call(_, _) => true,
+        _ => false,
     }
 }
 
@@ -228,16 +209,11 @@ fn is_plain(plan: &Plan) -> bool
 fn carried_by(outer: usize, range: &Plan) -> Option<Option<usize>>
     ensures { IfSome result (λ carried. Carries outer carried range.now) }
 {
-    match start_slot(range) {
-        Some(slot) => {
-            if slot < outer {
-                Some(None)
-            } else {
-                Some(Some(slot))
-            }
-        }
-        None => { if is_plain(range) { Some(None) } else { None } }
+    if may_give_texts(range) && reads_outside(outer, range) {
+        return Some(None);
     }
+    let slot = start_slot(range)?;
+    Some(Some(slot))
 }
 
 /// The range, from another slot.

@@ -11,6 +11,7 @@ mod joins;
 mod kinds;
 mod lists;
 mod order;
+mod outside;
 mod positions;
 mod predicates;
 mod scanned;

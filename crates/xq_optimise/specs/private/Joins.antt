@@ -10,6 +10,7 @@ use Rattle.xq_meaning.specs.declared.joins.Equality.{Equality}
 use Rattle.xq_meaning.specs.declared.joins.Join.{Join}
 use Rattle.xq_meaning.specs.declared.joins.JoinKey.{JoinKey}
 use Rattle.xq_meaning.specs.declared.node_tests.Test.{Test}
+use Rattle.xq_meaning.specs.declared.operators.Operator.{Operator}
 use Rattle.xq_meaning.specs.declared.plans.Plan.{Plan}
 use Rattle.xq_meaning.specs.declared.plans.Plan.TheVariants as plan
 use Rattle.xq_meaning.specs.declared.plans.PlanClause.{PlanClause}
@@ -19,7 +20,7 @@ use Rattle.xq_meaning.specs.declared.plans.PlanStep.TheVariants as step
 use Rattle.xq_meaning.specs.Doing.{in_turn}
 use Rattle.xq_meaning.specs.Functions.{Focus}
 use Rattle.xq_meaning.specs.Items.{Item}
-use Rattle.xq_meaning.specs.PlanMeaning.{Slots, Frame, carried, comparison, key_mean, keys_equal, next_clause, plan_mean, plan_clause_mean}
+use Rattle.xq_meaning.specs.PlanMeaning.{Slots, Frame, carried, comparison, key_mean, keys_equal, next_clause, plan_mean, plan_clause_mean, plan_step_mean}
 use Rattle.xq_meaning.specs.Same.{frame_of}
 use Rattle.xq_optimise.specs.private.Parts.{IsScan}
 
@@ -49,10 +50,6 @@ IsKeys join p =
 
 -- # Ranges
 
--- a string literal
-abbrev pub IsLiteral : Plan → Type 0
-IsLiteral p = (t : Text) × (p ≡ plan.Str t)
-
 -- the plan starts from one slot by scans, and the other one is the same from another slot
 abbrev pub IsRenamed : ℕ → ℕ → Plan → Plan → Type 0
 IsRenamed old new p q =
@@ -67,6 +64,18 @@ ReadsOutside outer p =
     (outer ≡ 0) ⊎ (outer ≡ length slots) →
     plan_mean p (frame_of (slots ++ more) focus addresses) trees
     ≡ plan_mean p (frame_of slots focus addresses) trees
+
+-- the same of an operand
+abbrev pub OperandOutside : ℕ → Operator × Plan → Type 0
+OperandOutside outer x = ReadsOutside outer x.1
+
+-- and of what follows a slash
+abbrev pub StepOutside : ℕ → PlanStep → Type 0
+StepOutside outer s =
+    (slots more : Slots) (focus : Option Focus) (addresses : List Text) (trees : List Tree) →
+    (outer ≡ 0) ⊎ (outer ≡ length slots) → (xs : List Item) →
+    plan_step_mean s (frame_of (slots ++ more) focus addresses) xs trees
+    ≡ plan_step_mean s (frame_of slots focus addresses) xs trees
 
 -- it reads none of them, or starts from this one
 abbrev pub Carries : ℕ → Option ℕ → Plan → Type 0
