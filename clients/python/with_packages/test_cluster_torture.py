@@ -225,7 +225,8 @@ class Torture(unittest.IsolatedAsyncioTestCase):
         self.machines.join(name)
         await self.at(name, "for _ in $(seq 15); do rabbitmqctl --timeout 20 await_startup && "
                             "exit; sleep 1; done; ps axo pid,stat,wchan:20,etimes,args; "
-                            "tail -n 40 /var/log/rabbitmq/out; exit 1")
+                            "tail -n 80 /var/log/rabbitmq/rabbit@$(hostname).log; "
+                            "rabbitmq-diagnostics maybe_stuck; exit 1")
 
     async def fill_disk(self, name: str) -> None:
         await self.at(name, "cd /var/lib/rabbitmq; free=$(df --output=avail -m . | tail -n 1); "
