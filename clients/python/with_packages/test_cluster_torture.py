@@ -117,14 +117,15 @@ class Torture(unittest.IsolatedAsyncioTestCase):
         self.worst = 0.0
 
     def set_up_brokers(self) -> None:
-        """Follows the page's instructions, with small disks, up to the start of nodes."""
+        """Follows the page's instructions, with small disks, up to the start of nodes, and starts
+        the looks at the brokers."""
         for name in self.machines.names:
             self.machines.run(name, f"mount -t tmpfs -o size={DISK}M tmpfs /var/lib/rabbitmq; "
                                     "chown rabbitmq: /var/lib/rabbitmq")
         page = (TOP / "docs" / "CLUSTER.md").read_text()
         for number, block in enumerate(blocks(page)):
             if block.said:
-                return
+                break
             script = "\n".join(block.lines).replace("20000000000", "100000000").replace(
                 '"x-stream-max-segment-size-bytes": 100000000', '"x-stream-max-segment-size-bytes"'
                 ": 20000000")
@@ -132,6 +133,8 @@ class Torture(unittest.IsolatedAsyncioTestCase):
                 self.machines.run(name, own(script, name))
             if number == 0:
                 carry(self.machines)
+        for name in self.machines.names:
+            self.machines.run(name, "systemctl enable --now xqs-broker.timer")
 
     def node(self, name: str, *options: str) -> MachineNode:
         """A node that has begun."""
