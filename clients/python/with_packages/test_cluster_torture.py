@@ -229,7 +229,7 @@ class Torture(unittest.IsolatedAsyncioTestCase):
         await self.at(name, "for _ in $(seq 15); do rabbitmqctl --timeout 20 await_startup && "
                             "exit; sleep 1; done; ps axo pid,stat,wchan:20,etimes,args; "
                             "tail -n 80 /var/log/rabbitmq/rabbit@$(hostname).log; "
-                            "rabbitmq-diagnostics maybe_stuck; exit 1")
+                            "cat /var/log/xqs-broker; exit 1")
 
     async def fill_disk(self, name: str) -> None:
         await self.at(name, "cd /var/lib/rabbitmq; free=$(df --output=avail -m . | tail -n 1); "
@@ -300,6 +300,9 @@ class Torture(unittest.IsolatedAsyncioTestCase):
         for path in self.folder.glob("*.said"):
             if "Traceback" in (said := path.read_text()):
                 self.findings.append(f"{path.name}: {said[-3000:]}")
+        looks = [await asyncio.to_thread(self.machines.run, it, "cat /var/log/xqs-broker")
+                 for it in self.machines.names]
+        woken = sum(it.count("hangs") for it in looks)
         states = [judge(max(it.snapshots.glob("*.snapshot"))).state for it in self.nodes]
         history = self.history
         known = sum(it.is_acknowledged for _, it in history.writes) + history.counted
@@ -308,8 +311,8 @@ class Torture(unittest.IsolatedAsyncioTestCase):
                            for name, count in sorted(self.counts.items()))
         return (f"{SECONDS:g} s, seed {SEED}: place {max(it.place for it in states):,}, {known:,} "
                 f"writes acknowledged, {unknown} unknown, {len(history.reads):,} reads; at most "
-                f"{self.worst:.1f} s without progress; {counts}; the load is "
-                f"{os.getloadavg()[0]:.1f}")
+                f"{self.worst:.1f} s without progress; {counts}; hung brokers "
+                f"were woken {woken} times; the load is {os.getloadavg()[0]:.1f}")
 
 
 if __name__ == "__main__":
