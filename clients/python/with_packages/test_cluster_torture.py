@@ -298,8 +298,10 @@ class Torture(unittest.IsolatedAsyncioTestCase):
         for node in self.nodes:
             await node.snapshot()
         for path in self.folder.glob("*.said"):
-            if "Traceback" in (said := path.read_text()):
-                self.findings.append(f"{path.name}: {said[-3000:]}")
+            before, found, behind = path.read_text().partition("Traceback")
+            if found:
+                print(f"--- {path.name}", before[-1000:] + found + behind[:3000], sep="\n")
+                self.findings.append(f"{path.name} has a traceback")
         looks = [await asyncio.to_thread(self.machines.run, it, "cat /var/log/xqs-broker")
                  for it in self.machines.names]
         woken = sum(it.count("hangs") for it in looks)
