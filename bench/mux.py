@@ -3,10 +3,10 @@
     tools/run mux [--rows N] [--runs N] [NAME ..] [-- SERVER WORDS]
 
 NAME is `reads`, `lookups`, `restart` or `stores`; without one all are measured. The server is
-./serve where none is named. What is compared is measured in turn, one after the other, and the
-table has the median of the ratios with the least and the most: a machine that is busy with other
-things shows itself by these. Status 1 where a figure misses its bound. bench/mux_cost.py has what
-the multiplexer itself costs.
+./serve where none is named, and each other one has its settings of the allocator. What is compared
+is measured in turn, one after the other, and the table has the median of the ratios with the least
+and the most: a machine that is busy with other things shows itself by these. Status 1 where a
+figure misses its bound. bench/mux_cost.py has what the multiplexer itself costs.
 
 - reads: queries with an `order by` a second, of six clients, with 3 servers and with 1
 - lookups: the median time of a lookup beside a client that asks queries of five seconds one after
@@ -32,6 +32,7 @@ from collections.abc import Callable, Iterator
 from contextlib import contextmanager
 
 from tools.common.repository import TOP
+from tools.common.workspace import use_allocator
 from xqs.protocol import Kind, frame, store_body
 
 Span = tuple[float, float]
@@ -392,6 +393,7 @@ def main() -> int:
     parser.add_argument("names", nargs="*", choices=[*MEASURES, []], metavar="NAME")
     given = parser.parse_args(words[:at])
     command = words[at + 1:] or [str(TOP / "serve")]
+    use_allocator()
     print(f"load {os.getloadavg()[0]:.1f} on {len(os.sched_getaffinity(0))} processors")
     print(f"| What | {SERVERS} servers and 1 | Ratio | Wanted |\n|---|---|---|---|")
     found = [MEASURES[name](command, given.runs, given.rows) for name in given.names or MEASURES]

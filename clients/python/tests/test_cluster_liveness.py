@@ -15,6 +15,7 @@ from xqs.cluster import aside, identity, snapshots
 from xqs.cluster.batches import Batch, decode, encode
 from xqs.cluster.limits import NoAnswer, Pauses, within
 from xqs.cluster.log import Away
+from xqs.cluster.main import _on_fault
 
 
 def value(number: int) -> str:
@@ -115,6 +116,32 @@ class Ends(unittest.TestCase):
                     timeout=60, cwd=SOURCES, check=False)
                 self.assertEqual((done.returncode, done.stdout), (status, "done\n"), done.stderr)
                 self.assertEqual("it failed" in done.stderr, how == "fails")
+
+
+class Faults(unittest.TestCase):
+    """What is shown of errors that nobody waits for."""
+
+    @staticmethod
+    def raised(module: str, error: Exception) -> Exception:
+        """An error that comes from code of a module."""
+        names = {"__name__": module, "error": error}
+        try:
+            exec("raise error", names)
+        except Exception as found:
+            return found
+        raise AssertionError
+
+    def test_lost_connections_of_the_package_are_not_shown_and_all_else_is(self) -> None:
+        lost = ConnectionResetError(104, "Connection reset by peer")
+        for module, error, is_shown in (
+            ("aiormq.connection", lost, False), ("aio_pika", TimeoutError(), False),
+            ("aiormq.connection", ValueError("x"), True), ("xqs.cluster.node", OSError(5), True),
+            ("aiormqs", OSError(5), True),
+        ):
+            loop = mock.Mock()
+            _on_fault(loop, {"message": "Future exception was never retrieved",
+                             "exception": self.raised(module, error)})
+            self.assertEqual(loop.default_exception_handler.called, is_shown, (module, error))
 
 
 class Silence(NodesTest):

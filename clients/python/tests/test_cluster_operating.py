@@ -10,9 +10,11 @@ from pathlib import Path
 from unittest import mock
 
 from tests.local_nodes import COUNT_UP, LocalNode, NodesTest, planted
-from xqs.cluster import control, health, operating, watches
+from xqs import Client
+from xqs.cluster import control, health, operating, snapshots, watches
 from xqs.cluster.main import _actions, _parser, main
 from xqs.cluster.outbox import Pending
+from xqs.cluster.state import State
 from xqs.cluster.status import STATES, Status, status_of
 from xqs.errors import XqError
 from xqs.listening import PlaceError
@@ -227,14 +229,25 @@ class Snapshots(NodesTest):
         big = 'document {element a {text {string-join((1 to 100000) ! "0123456789")}}}'
         for number in range(6):
             await client.store(f"big{number}", big)
-        taking = asyncio.create_task(node.node.take_snapshot())
-        waited = []
-        while not taking.done():
-            begin = time.monotonic()
-            await client.store("total", COUNT_UP)
-            waited.append(time.monotonic() - begin)
+        written, stored = list[float](), list[tuple[float, float]]()
+        real = snapshots.write
+
+        def slow(server: Client, state: State, folder: Path) -> tuple[Path, int]:
+            written.append(time.monotonic())
+            time.sleep(0.5)
+            found = real(server, state, folder)
+            written.append(time.monotonic())
+            return found
+
+        with mock.patch.object(snapshots, "write", slow):
+            taking = asyncio.create_task(node.node.take_snapshot())
+            while not taking.done():
+                begin = time.monotonic()
+                await client.store("total", COUNT_UP)
+                stored.append((begin, time.monotonic()))
         self.assertIn("documents of place", await taking)
-        self.assertGreater(len(waited), 3)
+        begin, end = written
+        self.assertGreater(sum(begin < sent and back < end for sent, back in stored), 3)
 
     async def test_nodes_take_them_at_places_of_their_own(self) -> None:
         nodes = [await self.begun(name, every=20) for name in ("a", "b")]

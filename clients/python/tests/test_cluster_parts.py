@@ -297,6 +297,16 @@ class Programs(FolderTest):
                 names.add(program.name_of_process(process.pid))
         self.assertEqual(len(names), 2)
 
+    def test_programs_that_differ_have_different_names(self) -> None:
+        answer = (b"\0\0\0\7" b"\0\0\0\1" b"\0()")
+        names = {self.named(*server_command())}
+        for number in range(2):
+            path = self.folder / f"server{number}.py"
+            path.write_text(f"import sys\nsys.stdin.buffer.read(11)\nsys.stdout.buffer.write("
+                            f"{answer!r})\nsys.stdout.flush()\nsys.stdin.read({number + 1})\n")
+            names.add(self.named(sys.executable, str(path)))
+        self.assertEqual(len(names), 3)
+
     def test_what_does_not_run_is_refused(self) -> None:
         with self.assertRaises(StartFailed):
             self.named(str(self.folder / "nothing"))

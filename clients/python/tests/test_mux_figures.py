@@ -261,11 +261,11 @@ class SystemdTest(FolderTest):
 
     @unittest.skipUnless(shutil.which("systemd-analyze"), "systemd-analyze is not installed")
     def test_the_units_are_ones(self) -> None:
-        for unit in UNITS.glob("xqs-mux.*"):
+        for unit in UNITS.glob("xqs-*"):
             text = unit.read_text().replace("/opt/xq_server", str(TOP))
             (self.folder / unit.name).write_text(text)
         names = [f"./{it.name}" for it in sorted(self.folder.iterdir())]
-        self.assertEqual(len(names), 2)
+        self.assertEqual(len(names), 5)
         done = subprocess.run(["systemd-analyze", "verify", *names], cwd=self.folder, text=True,
                               capture_output=True, check=False, timeout=60)
         self.assertEqual((done.returncode, done.stderr), (0, ""))

@@ -18,7 +18,7 @@ from xqs.mux_clients import Settings
 from xqs.mux_many import ManyServers
 from xqs.mux_peer import Peer, Request
 from xqs.protocol import Splitter
-from xqs.replica import GATHERED, IN_PIPE, Copy, Replica, State, address_of
+from xqs.replica import FEW, GATHERED, IN_PIPE, Copy, Replica, State, address_of
 
 DONE, REFUSED, WANTING = 0, 1, 2
 ROUNDS = int(os.environ.get("XQS_ROUNDS", "12"))
@@ -260,10 +260,13 @@ class LineTest(unittest.IsolatedAsyncioTestCase):
     def setUp(self) -> None:
         self.sent: list[list[bytes]] = []
         self.replica = Replica(2, lambda replica, request, reply: None)
-        backend = mock.Mock(in_flight=collections.deque())
-        backend.put.side_effect = lambda *requests: self.sent.append(
-            [request.payload for request in requests])
-        self.replica._backend = backend
+        self.in_flight: collections.deque[Request] = collections.deque()
+        self.replica._backend = mock.Mock(in_flight=self.in_flight, put=self.note)
+
+    def note(self, *requests: Request) -> None:
+        """Notes what the server is sent together."""
+        self.sent.append([request.payload for request in requests])
+        self.in_flight.extend(requests)
 
     def put(self, *payloads: bytes) -> None:
         """Puts copies of writes into the line."""
@@ -286,6 +289,31 @@ class LineTest(unittest.IsolatedAsyncioTestCase):
     async def test_a_line_that_is_full_does_not_wait(self) -> None:
         self.put(*[b"Da"] * IN_PIPE)
         self.assertEqual(self.sent, [[b"Da"] * IN_PIPE])
+
+    def take(self, count: int) -> None:
+        """The server answers so many of the requests that it was sent."""
+        for _ in range(count):
+            self.replica._take(self.in_flight.popleft(), b"\0dropped")
+
+    async def test_what_waits_for_room_goes_together_and_the_server_is_never_without(self) -> None:
+        self.put(*[b"Da"] * IN_PIPE, b"Db", b"Dc")
+        self.replica.put(Request(None, 0, READ))
+        self.assertEqual(self.sent, [[b"Da"] * IN_PIPE])
+        self.take(IN_PIPE - FEW - 1)
+        self.assertEqual(len(self.sent), 1)
+        self.put(b"Dd")
+        self.take(1)
+        self.assertEqual(self.sent[1:], [[b"Db", b"Dc", READ, b"Dd"]])
+        self.assertEqual((self.replica.line_bytes, len(self.in_flight)), (0, IN_PIPE))
+
+    async def test_a_reply_does_not_send_copies_that_wait_for_others(self) -> None:
+        self.replica.put(Request(None, 0, READ))
+        self.put(b"Da")
+        self.take(1)
+        self.put(b"Db")
+        self.assertEqual(self.sent, [[READ]])
+        await asyncio.sleep(5 * GATHERED)
+        self.assertEqual(self.sent, [[READ], [b"Da", b"Db"]])
 
 
 class ReplicasTest(unittest.TestCase):

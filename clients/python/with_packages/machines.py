@@ -73,6 +73,15 @@ start_node() {
     cat /var/log/xqs-node >&2
     return 1
 }
+start_looks() {
+    unit=/etc/systemd/system/xqs-broker.service
+    every=$(sed -n 's/^OnUnitInactiveSec=//p' "${unit%service}timer")
+    while read -r word; do export "$word"; done < <(
+        sed -n 's/^Environment="\\(.*\\)"$/\\1/p' "$unit" | tr -d '\\\\')
+    line=$(sed -n 's/^ExecStart=//p' "$unit")
+    setsid bash -c "while sleep $every; do ${line//\\$\\$/\\$}; done" \\
+        >>/var/log/xqs-broker 2>&1 </dev/null &
+}
 stop() {
     [ -f "$1" ] || return 0
     kill "$(cat "$1")" 2>/dev/null || true
@@ -83,6 +92,7 @@ case "$*" in
     "stop rabbitmq-server") rabbitmqctl --timeout 60 stop >/dev/null 2>&1 || true ;;
     "start rabbitmq-server") rm -f /var/log/rabbitmq/out; start_broker ;;
     "start xqs-node"|"enable --now xqs-node") start_node ;;
+    "enable --now xqs-broker.timer") start_looks ;;
     "stop xqs-node") stop /run/xqs-node.pid ;;
     daemon-reload) ;;
     *) echo "no such stand-in: $*" >&2; exit 1 ;;

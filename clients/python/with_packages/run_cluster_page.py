@@ -1,6 +1,7 @@
 """Runs the blocks of docs/CLUSTER.md, section "Three machines", line by line on three machines.
 
-    tools/run_cluster_page.py [--server WORDS] [--show]
+    tools/run after_gate cluster_page
+    python3 -m run_cluster_page [--server WORDS] [--show]       with the path that tools/run sets
 
 The machines are network namespaces (clients/python/with_packages/machines.py); the server is that
 of $XQS_SERVER or WORDS. Of each block the paragraph before it says where it is run. What a node

@@ -286,7 +286,7 @@ class Logs(ClusterTest):
         late.begin(is_awaited=False)
         self.assertEqual(await asyncio.to_thread(late.process.wait, 60), 1)
         self.assertRegex(late.said(), r"the log .* begins at offset \d+, and the documents are of "
-                         r"place 0 \(offset -1\): what lies between is no longer there")
+                         r"place 0 \(offset -1\): the entries between are no longer there")
         for path in node.snapshots.glob("*.snapshot"):
             shutil.copy(path, late.snapshots)
         late.begin()

@@ -117,14 +117,15 @@ class Torture(unittest.IsolatedAsyncioTestCase):
         self.worst = 0.0
 
     def set_up_brokers(self) -> None:
-        """Follows the page's instructions, with small disks, up to the start of nodes."""
+        """Follows the page's instructions, with small disks, up to the start of nodes, and starts
+        the looks at the brokers."""
         for name in self.machines.names:
             self.machines.run(name, f"mount -t tmpfs -o size={DISK}M tmpfs /var/lib/rabbitmq; "
                                     "chown rabbitmq: /var/lib/rabbitmq")
         page = (TOP / "docs" / "CLUSTER.md").read_text()
         for number, block in enumerate(blocks(page)):
             if block.said:
-                return
+                break
             script = "\n".join(block.lines).replace("20000000000", "100000000").replace(
                 '"x-stream-max-segment-size-bytes": 100000000', '"x-stream-max-segment-size-bytes"'
                 ": 20000000")
@@ -132,6 +133,8 @@ class Torture(unittest.IsolatedAsyncioTestCase):
                 self.machines.run(name, own(script, name))
             if number == 0:
                 carry(self.machines)
+        for name in self.machines.names:
+            self.machines.run(name, "systemctl enable --now xqs-broker.timer")
 
     def node(self, name: str, *options: str) -> MachineNode:
         """A node that has begun."""
@@ -225,7 +228,8 @@ class Torture(unittest.IsolatedAsyncioTestCase):
         self.machines.join(name)
         await self.at(name, "for _ in $(seq 15); do rabbitmqctl --timeout 20 await_startup && "
                             "exit; sleep 1; done; ps axo pid,stat,wchan:20,etimes,args; "
-                            "tail -n 40 /var/log/rabbitmq/out; exit 1")
+                            "tail -n 80 /var/log/rabbitmq/rabbit@$(hostname).log; "
+                            "cat /var/log/xqs-broker; exit 1")
 
     async def fill_disk(self, name: str) -> None:
         await self.at(name, "cd /var/lib/rabbitmq; free=$(df --output=avail -m . | tail -n 1); "
@@ -294,8 +298,13 @@ class Torture(unittest.IsolatedAsyncioTestCase):
         for node in self.nodes:
             await node.snapshot()
         for path in self.folder.glob("*.said"):
-            if "Traceback" in (said := path.read_text()):
-                self.findings.append(f"{path.name}: {said[-3000:]}")
+            before, found, behind = path.read_text().partition("Traceback")
+            if found:
+                print(f"--- {path.name}", before[-1000:] + found + behind[:3000], sep="\n")
+                self.findings.append(f"{path.name} has a traceback")
+        looks = [await asyncio.to_thread(self.machines.run, it, "cat /var/log/xqs-broker")
+                 for it in self.machines.names]
+        woken = sum(it.count("hangs") for it in looks)
         states = [judge(max(it.snapshots.glob("*.snapshot"))).state for it in self.nodes]
         history = self.history
         known = sum(it.is_acknowledged for _, it in history.writes) + history.counted
@@ -304,8 +313,8 @@ class Torture(unittest.IsolatedAsyncioTestCase):
                            for name, count in sorted(self.counts.items()))
         return (f"{SECONDS:g} s, seed {SEED}: place {max(it.place for it in states):,}, {known:,} "
                 f"writes acknowledged, {unknown} unknown, {len(history.reads):,} reads; at most "
-                f"{self.worst:.1f} s without progress; {counts}; the load is "
-                f"{os.getloadavg()[0]:.1f}")
+                f"{self.worst:.1f} s without progress; {counts}; hung brokers "
+                f"were woken {woken} times; the load is {os.getloadavg()[0]:.1f}")
 
 
 if __name__ == "__main__":

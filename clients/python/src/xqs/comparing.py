@@ -68,9 +68,9 @@ class Comparing:
         replicas.on_read = self._note
 
     def _note(self, request: Request, reply: bytes) -> None:
-        self._reads += 1
         if reply[0] == Status.WANTING or time.monotonic() - request.sent >= LONGEST:
             return
+        self._reads += 1
         self._keep(request.payload)
         if self._every and self._reads % self._every == 0 and not self._tasks:
             task = asyncio.create_task(self._compare(request.payload))

@@ -7,6 +7,7 @@ import dataclasses
 import os
 import signal
 import time
+from asyncio.subprocess import PIPE, SubprocessStreamProtocol
 from collections.abc import Callable, Iterator, Sequence
 
 from xqs import protocol
@@ -26,6 +27,10 @@ BLAMELESS = 0.25
 
 class ServerEnded(XqError):
     """The server ended before its reply."""
+
+
+def _leave(piece: bytes) -> None:
+    """Takes nothing."""
 
 
 def _future() -> "asyncio.Future[bytes]":
@@ -51,6 +56,31 @@ class StartFailed(XqError):
     """The server ended, or could not be run, before it answered its first frame."""
 
 
+class _Pipes(SubprocessStreamProtocol):
+    """The pipes of a server. What comes from it goes to `take` at once: a task that waits for it
+    would take as long as the rest of a reply's way. `over` is set at the end of it, with `error` if
+    it can't be read any more."""
+
+    def __init__(self) -> None:
+        super().__init__(limit=PIECE, loop=asyncio.get_running_loop())
+        self.early: list[bytes] = []
+        self.take: Callable[[bytes], None] = self.early.append
+        self.over = asyncio.Event()
+        self.error: Exception | None = None
+
+    def pipe_data_received(self, fd: int, data: bytes | str) -> None:
+        """Takes a piece of the server's output."""
+        assert isinstance(data, bytes)
+        self.take(data)
+
+    def pipe_connection_lost(self, fd: int, exc: Exception | None) -> None:
+        """A pipe has ended."""
+        super().pipe_connection_lost(fd, exc)
+        if fd == 1:
+            self.error = exc
+            self.over.set()
+
+
 class Backend:
     """A running server: it takes frames, and passes each reply to `on_reply` with its request, or
     to the code here that asked.
@@ -62,7 +92,7 @@ class Backend:
     request; `overdue` is that request.
     """
 
-    def __init__(self, process: asyncio.subprocess.Process,
+    def __init__(self, process: asyncio.subprocess.Process, pipes: _Pipes,
                  on_reply: Callable[[Request, bytes], None], seconds: float | None) -> None:
         self.process = process
         self.in_flight: collections.deque[Request] = collections.deque()
@@ -75,7 +105,12 @@ class Backend:
         self._on_reply = on_reply
         self._seconds = seconds
         self._alarm: asyncio.TimerHandle | None = None
-        self._task = asyncio.create_task(self._read())
+        self._pipes = pipes
+        self._splitter = protocol.Splitter(protocol.MAX_REPLY)
+        self._task = asyncio.create_task(self._until_end())
+        pipes.take = self._take
+        for piece in pipes.early:
+            self._take(piece)
 
     @classmethod
     async def start(cls, command: Sequence[str], on_reply: Callable[[Request, bytes], None],
@@ -86,14 +121,16 @@ class Backend:
         Raises StartFailed. The server is a process group of its own, so a signal from the terminal
         reaches only the multiplexer.
         """
+        loop = asyncio.get_running_loop()
         try:
-            process = await asyncio.create_subprocess_exec(
-                *kept(command, memory), stdin=asyncio.subprocess.PIPE,
-                stdout=asyncio.subprocess.PIPE, limit=PIECE, process_group=0)
+            transport, pipes = await loop.subprocess_exec(
+                _Pipes, *kept(command, memory), stdin=PIPE, stdout=PIPE, stderr=None,
+                process_group=0)
         except OSError as error:
             raise StartFailed(f"{command[0]}: {error.strerror or error}") from error
+        process = asyncio.subprocess.Process(transport, pipes, loop)
         answered = asyncio.Event()
-        backend = cls(process, lambda request, reply: answered.set(), None)
+        backend = cls(process, pipes, lambda request, reply: answered.set(), None)
         try:
             await backend._probe(command, answered)
         except BaseException:
@@ -128,8 +165,8 @@ class Backend:
         frames = bytearray()
         for request in requests:
             self.frames += 1
-            message = protocol.with_tag(bytes(4) + request.payload, self.frames)
-            frames += protocol.framed(message)
+            frames += protocol.head_of(len(request.payload), self.frames)
+            frames += request.payload
             request.unsent = False
         self.in_flight.extend(requests)
         if is_first:
@@ -139,13 +176,18 @@ class Backend:
             pipe.write(frames)
         requests[0].unsent = is_first and pipe.is_closing()
 
-    async def _read(self) -> None:
-        assert self.process.stdout is not None
-        splitter = protocol.Splitter(protocol.MAX_REPLY)
+    def _take(self, piece: bytes) -> None:
+        """Takes a piece of the server's output; after a fault nothing more is taken."""
         try:
-            while piece := await self.process.stdout.read(PIECE):
-                self._take_all(splitter.feed(piece))
-        except (OSError, protocol.FrameFault):
+            self._take_all(self._splitter.feed(piece))
+        except protocol.FrameFault:
+            self.kill()
+            self._pipes.take = _leave
+            self._pipes.over.set()
+
+    async def _until_end(self) -> None:
+        await self._pipes.over.wait()
+        if self._pipes.error:
             self.kill()
         if self._alarm:
             self._alarm.cancel()
@@ -169,8 +211,9 @@ class Backend:
             if not self.in_flight or protocol.tag_of(message) != self._answered:
                 raise protocol.FrameFault("a reply without a request")
             request = self.in_flight.popleft()
-            self.last_work = self.worked()
+            before = self._front_since
             self._watch_front()
+            self.last_work = self._front_since - before
             if isinstance(request, Own) and not request.done.done():
                 request.done.set_result(message[4:])
             self._on_reply(request, message[4:])

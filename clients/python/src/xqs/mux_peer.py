@@ -25,6 +25,10 @@ TOO_SLOW = refusal("xqs:SECONDS")
 TOO_LARGE = refusal("xqs:MEMORY")
 
 
+CHANGES = (Kind.STORE.value, Kind.DROP.value)
+"""The letters of the kinds that may change documents."""
+
+
 @dataclasses.dataclass(eq=False, slots=True)
 class Request:
     """A frame on its way: its client, its tag as the client gave it, its kind and body.
@@ -58,7 +62,7 @@ class Request:
 
     def changes(self) -> bool:
         """Whether the request may change documents."""
-        return self.kind in (Kind.STORE, Kind.DROP)
+        return self.payload[:1] in CHANGES
 
 
 class Peer:

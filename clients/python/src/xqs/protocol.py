@@ -26,6 +26,7 @@ MAX_LEVEL = 100
 MAX_TAG = 2**32 - 1
 
 _LENGTH = struct.Struct(">I")
+_HEAD = struct.Struct(">II")
 _REQUEST_HEAD = struct.Struct(">IIc")
 _ADDRESS_BYTES = frozenset(
     b"ABCDEFGHIJKLMNOPQRSTUVWXYZabcdefghijklmnopqrstuvwxyz0123456789._/-"
@@ -102,6 +103,11 @@ def reply(tag: int, status: Status, text: bytes) -> bytes:
 def framed(message: bytes) -> bytes:
     """A message with its length in front."""
     return _LENGTH.pack(len(message)) + message
+
+
+def head_of(length: int, tag: int) -> bytes:
+    """The length and the tag of a frame whose kind and body have so many bytes."""
+    return _HEAD.pack(4 + length, tag)
 
 
 def tag_of(message: bytes) -> int:

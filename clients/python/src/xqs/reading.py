@@ -311,7 +311,7 @@ def settled(request: Request) -> None:
 
 def give(request: Request, reply: bytes) -> None:
     """Gives a request its reply, if anybody still waits for it."""
-    if isinstance(request, Posed | Own):
+    if isinstance(request, (Posed, Own)):
         if not request.done.done():
             request.done.set_result(reply)
     elif request.peer and not request.peer.gone:

@@ -21,6 +21,8 @@ BETWEEN_LOOKS = 0.01
 """Seconds between two checks whether a queue is empty."""
 IN_PIPE = 8
 """How many requests of a queue are sent ahead; the others wait here."""
+FEW = IN_PIPE // 2
+"""When so few of them have no reply yet, more are sent, together."""
 GATHERED = 0.002
 """How many seconds the copy of a write waits for others, with which it is sent."""
 
@@ -148,33 +150,46 @@ class Replica:
         self.opened = self.began - begin
 
     def _take(self, request: Request, reply: bytes) -> None:
-        self._slow -= isinstance(request, Copy) and request.took > HELD
+        if self._slow:
+            self._slow -= isinstance(request, Copy) and request.took > HELD
         self._on_reply(self, request, reply)
-        self._pump()
+        # (copies that wait for others are sent by their timer)
+        if self.line and self._later is None and len(self.backend.in_flight) <= FEW:
+            self._pump()
 
     def put(self, request: Request) -> None:
         """Puts a request at the end of the queue, and sends the queue on. If it holds copies of
         writes alone, they wait for others first."""
         self.line.append(request)
         self.line_bytes += len(request.payload)
-        self._slow += isinstance(request, Copy) and request.took > HELD
         if self.watchers and request.changes() and (address := address_of(request.payload)):
             for watcher in self.watchers:
                 watcher.changed(address)
-        if not isinstance(request, Copy) or len(self.line) >= IN_PIPE:
+        if not isinstance(request, Copy):
             self._pump()
-        elif self._later is None:
+            return
+        self._slow += request.took > HELD
+        if len(self.line) >= IN_PIPE:
+            self._pump()
+        elif len(self.line) == 1 and self._later is None:
             self._later = asyncio.get_running_loop().call_later(GATHERED, self._pump)
 
     def _pump(self) -> None:
         if self._later is not None:
             self._later.cancel()
             self._later = None
-        room = IN_PIPE - len(self.backend.in_flight)
-        sent = [self.line.popleft() for _ in range(min(room, len(self.line)))]
-        if sent:
+        backend = self.backend
+        room = IN_PIPE - len(backend.in_flight)
+        if room <= 0 or not self.line:
+            return
+        if len(self.line) <= room:
+            sent = list(self.line)
+            self.line.clear()
+            self.line_bytes = 0
+        else:
+            sent = [self.line.popleft() for _ in range(room)]
             self.line_bytes -= sum(len(request.payload) for request in sent)
-            self.backend.put(*sent)
+        backend.put(*sent)
 
     async def ask(self, payload: bytes) -> bytes:
         """The status and text of the reply to a request of this program. Raises ServerEnded."""

@@ -117,7 +117,13 @@ class Replicas(Reading):
     def _can_write(self, first: Replica) -> bool:
         return (not self._holds and first.state in HOLDING and first.runs
                 and first.waiting < self._settings.window and not self._wants_first()
-                and all(it.line_bytes < LINE_BYTES for it in self.all if it is not first))
+                and self._others_have_room(first))
+
+    def _others_have_room(self, first: Replica) -> bool:
+        for replica in self.all:
+            if replica.line_bytes >= LINE_BYTES and replica is not first:
+                return False
+        return True
 
     def _wants_first(self) -> bool:
         """Whether a read waits for the first server, so that the writes leave it a turn: if no
@@ -163,7 +169,8 @@ class Replicas(Reading):
             self._written(replica, request, reply)
         else:
             self.take_reply(replica, request, reply)
-        self.pump()
+        if self.writes:
+            self.pump()
         if self.waiting:
             self.dispatch()
 
@@ -187,15 +194,17 @@ class Replicas(Reading):
         """Passes a write that the first server carried out to all others."""
         self.place += 1
         self.changes.note(address_of(payload))
-        took = self.first.backend.last_work
+        copy = Copy(None, 0, payload, expected=reply, took=self.first.backend.last_work)
         for replica in self.all:
             if replica is not self.first and replica.state in HOLDING:
-                replica.put(Copy(None, 0, payload, expected=reply, took=took))
+                replica.put(copy)
 
     def _copied(self, replica: Replica, request: Copy, reply: bytes) -> None:
+        if reply == request.expected:
+            return
         if reply[0] == Status.WANTING:
             self.on_unfit(replica, f"it could not carry out a write ({reply[1:].decode()})")
-        elif reply != request.expected and (request.expected or reply[0] != Status.DONE):
+        elif request.expected or reply[0] != Status.DONE:
             self.on_differ(request.payload, [(self.first.name, request.expected),
                                              (replica.name, reply)])
             self.on_unfit(replica, "it answered a write differently")

@@ -9,6 +9,7 @@ import pathlib
 import re
 import socket
 import sys
+import traceback
 from collections.abc import Sequence
 from functools import partial
 
@@ -139,8 +140,18 @@ def _on_fault(loop: asyncio.AbstractEventLoop, context: dict[str, object]) -> No
     """Ignores the errors of the package's own tasks when a connection ends, and reports all
     others."""
     task = context.get("future") or context.get("task")
-    if not (isinstance(task, asyncio.Future) and any(it in repr(task) for it in _THEIRS)):
+    is_theirs = isinstance(task, asyncio.Future) and any(it in repr(task) for it in _THEIRS)
+    if not is_theirs and not _is_of_their_connection(context.get("exception")):
         loop.default_exception_handler(context)
+
+
+def _is_of_their_connection(error: object) -> bool:
+    """Whether an error is that of a connection, and comes from the package: its futures have no
+    name of its own."""
+    if not isinstance(error, OSError):
+        return False
+    frames = (frame for frame, _ in traceback.walk_tb(error.__traceback__))
+    return any(it.f_globals.get("__name__", "").partition(".")[0] in _THEIRS for it in frames)
 
 
 _THEIRS = ("aiormq", "aio_pika")
