@@ -20,6 +20,10 @@ use xq_meaning::{Equality, Join, JoinKey, KeyForm, Operator, Plan, PlanClause, P
 use xq_plan::copied_test;
 use xq_trees::Axis;
 
+/// How many clauses are looked at for the one that opens a slot, so that the time for a list is in
+/// proportion to it.
+const FIRST: usize = 16;
+
 // # Keys
 
 /// The comparison for equality that an operator is.
@@ -171,6 +175,18 @@ fn keys_of(
 
 // # Ranges
 
+/// How many slots a clause opens.
+fn width(clause: &PlanClause) -> usize {
+    match clause {
+        PlanClause::For(_, true, _) => 2,
+        PlanClause::For(_, false, _)
+        | PlanClause::Join(_, _)
+        | PlanClause::Let(_)
+        | PlanClause::Count => 1,
+        _ => 0,
+    }
+}
+
 /// The slot from which a plan starts by scans.
 fn start_slot(plan: &Plan) -> Option<usize>
     ensures { IfSome result (λ slot. IsRenamed slot slot plan.now plan.now) }
@@ -204,16 +220,42 @@ fn may_give_texts(range: &Plan) -> bool {
     }
 }
 
-/// The slot of the tuples that a range starts from, where so many slots are outside; no slot where
-/// it reads none of theirs. None where that isn't known.
-fn carried_by(outer: usize, range: &Plan) -> Option<Option<usize>>
+/// Whether a `let` among the first clauses opens the slot, where so many are outside. What it holds
+/// is the same at each tuple, if no `for` stands before it; that of a `for` never is.
+fn is_of_let(list: &[PlanClause], outer: usize, slot: usize) -> bool {
+    let mut slots = outer;
+    let mut seen = 0usize;
+    for clause in list {
+        slots = slots.saturating_add(width(clause));
+        if slot < slots {
+            return match clause {
+                PlanClause::Let(_) => true,
+                _ => false,
+            };
+        }
+        seen = seen.saturating_add(1);
+        if seen == FIRST {
+            return false;
+        }
+    }
+    false
+}
+
+/// The slot of the tuples that a range starts from, where so many slots are outside, and these
+/// clauses stand before it; no slot where it reads none of theirs. None where that isn't known, or
+/// the slot isn't of a `let`.
+fn carried_by(outer: usize, list: &[PlanClause], range: &Plan) -> Option<Option<usize>>
     ensures { IfSome result (λ carried. Carries outer carried range.now) }
 {
     if may_give_texts(range) && reads_outside(outer, range) {
         return Some(None);
     }
     let slot = start_slot(range)?;
-    Some(Some(slot))
+    if is_of_let(list, outer, slot) {
+        Some(Some(slot))
+    } else {
+        None
+    }
 }
 
 /// The range, from another slot.
@@ -275,7 +317,7 @@ fn with_join(
 ) -> Result<Items<PlanClause>, AllocError>
     ensures { IfOk result (λ after. AddsJoin outer range test found after) }
 {
-    let Some(carried) = carried_by(outer, &range) else {
+    let Some(carried) = carried_by(outer, found.as_slice(), &range) else {
         return with_both(found, range, test);
     };
     let Some(join) = keys_of(alloc, carried, slots, &test)? else {
@@ -301,18 +343,6 @@ fn with_where(
         }
         Some(last) => pushed(pushed(before, last)?, PlanClause::Where(test)),
         None => pushed(before, PlanClause::Where(test)),
-    }
-}
-
-/// How many slots a clause opens.
-fn width(clause: &PlanClause) -> usize {
-    match clause {
-        PlanClause::For(_, true, _) => 2,
-        PlanClause::For(_, false, _)
-        | PlanClause::Join(_, _)
-        | PlanClause::Let(_)
-        | PlanClause::Count => 1,
-        _ => 0,
     }
 }
 
