@@ -42,6 +42,8 @@ class MemoryLink:
     `plan` may say what happens to each message that is published: `keep`, `lose`, or `keep
     unconfirmed`; after the last two the connection ends, and comes back. With `refuse` the message
     is not kept, and the connection stays. While `is_stuck` nothing comes, and nothing reports that.
+    A connection that `fails_with` an error is up, and raises it for each request of messages until
+    it is given up.
     """
 
     def __init__(self, log: MemoryLog) -> None:
@@ -52,6 +54,7 @@ class MemoryLink:
         self.plan: Callable[[bytes], str] = lambda message: "keep"
         self.grown = asyncio.Event()
         self.is_stuck = False
+        self.fails_with: Away | None = None
         self.drops: list[str] = []
         self._ends = 0
 
@@ -74,6 +77,8 @@ class MemoryLink:
         at, ends = max(after + 1, self.log.first), self._ends
         if not self.is_up:
             raise Away("it is down")
+        if self.fails_with:
+            raise self.fails_with
         while True:
             while at >= len(self.log.kept) or self.is_stuck:
                 self.grown.clear()
@@ -117,6 +122,7 @@ class MemoryLink:
 
     def drop_reading(self, why: str) -> None:
         """Ends the connection that reads."""
+        self.fails_with = None
         self.drops.append(why)
         self.drop(why)
 

@@ -168,6 +168,18 @@ class Silence(NodesTest):
                                       "from place "), node.said)
         self.assertTrue(node.has_said("a: follows the log again, after"), node.said)
 
+    async def test_a_connection_that_is_up_and_fails_is_given_up(self) -> None:
+        node = await self.begun("a")
+        client = await self.client(node)
+        await client.store("c", value(1))
+        for error in (NoAnswer("no answer for 5 seconds"), Away("it takes no channel")):
+            node.link.drops.clear()
+            node.link.fails_with = error
+            node.link.drop("planted")
+            await asyncio.wait_for(client.store("c", value(2)), 20)
+            self.assertEqual(node.link.drops, [str(error)])
+            self.assertEqual(await client.query('string(doc("c"))'), ["2"])
+
     async def test_each_of_several_servers_follows_again(self) -> None:
         with mock.patch("xqs.cluster.feed.SILENT", 0.3), \
                 mock.patch("xqs.cluster.watches.IDLE", 0.1), \

@@ -6,7 +6,7 @@ from collections.abc import AsyncGenerator, Callable
 from contextlib import aclosing
 
 from xqs.cluster import identity
-from xqs.cluster.limits import Pauses
+from xqs.cluster.limits import NoAnswer, Pauses
 from xqs.cluster.log import Away, CannotFollow, Log
 from xqs.cluster.state import State
 
@@ -31,6 +31,9 @@ class Feed:
     If none comes for too long, or if the connection ends, they are requested anew from the place
     that was reached, as often as needed. Each time the message at that place is compared with the
     one that was taken there: a log that was created anew has a different one.
+
+    A connection that is up and answers a request no more, or fails twice in a row, is given up: a
+    broker may hold a connection and serve nothing over it.
     """
 
     def __init__(self, name: str, log: Log, say: Callable[[str], None]) -> None:
@@ -38,7 +41,7 @@ class Feed:
         self._log = log
         self._say = say
         self._pauses = Pauses(AGAIN, LONGEST_PAUSE)
-        self._silences = 0
+        self._failures = 0
         self._broke: float | None = None
         self._was_heard = False
 
@@ -52,6 +55,7 @@ class Feed:
             except Away as error:
                 self._note_break(str(error), state)
                 if self._log.is_read:
+                    self._note_failure(error)
                     await self._pauses.pause()
                 else:
                     await asyncio.sleep(AGAIN)
@@ -75,7 +79,7 @@ class Feed:
                     offset, message = await anext(messages)
         except TimeoutError:
             await self._check_end(state)
-            raise self._silence("the message that was taken last did not come") from None
+            raise Away("the message that was taken last did not come") from None
         if offset == state.offset and state.digest not in ("", digest_of(message)):
             raise CannotFollow(await self._made_anew(state, f"at offset {offset} it has another "
                                                             "message"))
@@ -89,16 +93,16 @@ class Feed:
             async with asyncio.timeout(SILENT):
                 found = await anext(messages)
         except TimeoutError:
-            raise self._silence(f"nothing came for {SILENT:g} seconds") from None
+            raise Away(f"nothing came for {SILENT:g} seconds") from None
         self._note_heard()
         return found
 
-    def _silence(self, why: str) -> Away:
-        """The error for a silence; after two in a row a new connection is made too."""
-        self._silences += 1
-        if self._silences > 1:
-            self._log.drop_reading(why)
-        return Away(why)
+    def _note_failure(self, error: Away) -> None:
+        """Notes a failure of a connection that is up. It is given up after a second one in a row,
+        and at once if a request had no answer."""
+        self._failures += 1
+        if self._failures > 1 or isinstance(error, NoAnswer):
+            self._log.drop_reading(str(error))
 
     async def _check_end(self, state: State) -> None:
         """Checks that the log reaches this follower's place; otherwise it is a different log."""
@@ -120,7 +124,7 @@ class Feed:
                 self._say(f"{self._name}: {why}: the log is followed anew from {state}")
 
     def _note_heard(self) -> None:
-        self._silences = 0
+        self._failures = 0
         self._pauses.begin_anew()
         if self._broke is not None and self._was_heard:
             seconds = asyncio.get_running_loop().time() - self._broke
