@@ -65,6 +65,17 @@ class Frames(NodesTest):
         await asyncio.gather(*(client.store(f"c{number}", value(number)) for number in range(60)))
         self.assertLess(len(self.log.kept) - before, 40)
 
+    async def test_a_message_waits_for_more_where_many_store(self) -> None:
+        client = await self.client(await self.begun("a"))
+
+        async def work(name: str) -> None:
+            for number in range(8):
+                await client.store(name, value(number))
+
+        before = len(self.log.kept)
+        await asyncio.gather(*(work(f"c{number}") for number in range(16)))
+        self.assertLess(len(self.log.kept) - before, 32)
+
     async def test_a_fresh_read_misses_nothing(self) -> None:
         first = await self.begun("a")
         second = await self.begun("b", is_fresh=True, servers=2)

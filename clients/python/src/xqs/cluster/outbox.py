@@ -12,6 +12,9 @@ from xqs.errors import XqError
 
 IN_FLIGHT = 1
 """How many messages may wait for their confirmations; later entries share the next message."""
+MANY, GATHER = 8, 0.004
+"""While so many entries are on their way, a message waits so many seconds for more of them: each
+message costs an engine and every node far more than an entry in it."""
 HELD_BYTES = 64 << 20
 """How many bytes of entries may be on their way; clients with more of them wait."""
 SWEEP = 0.1
@@ -141,6 +144,8 @@ class Outbox:
             while True:
                 await self._work.wait()
                 await self._free.acquire()
+                if len(self._pending) >= MANY:
+                    await asyncio.sleep(GATHER)
                 if not self._start_send():
                     self._free.release()
         finally:
