@@ -110,6 +110,14 @@ and_quiet parts all frame =
     then_leaves (first_that false (λ (part : Meaning). Forms.tested part frame) parts) _
     (first_leaves false (λ (part : Meaning). Forms.tested part frame) parts (tests_leave frame parts all)) (λ answer f. (_, refl))
 
+pub if_quiet : (test positive negative : Meaning) → Quiet test → Quiet positive → Quiet negative → Quiet (Forms.conditional test positive negative)
+if_quiet test positive negative h k l frame =
+    then_leaves (Forms.tested test frame) (λ answer. Forms.chosen answer positive negative frame) (tested_leaves test h frame) (λ answer. by answer)
+  where
+    by : (answer : Bool) → Leaves (Forms.chosen answer positive negative frame)
+    by true = k frame
+    by false = l frame
+
 pub unary_quiet : (signs : List Sign) (part : Meaning) → Quiet part → Quiet (Forms.unary signs part)
 unary_quiet signs part h frame =
     then_leaves (Forms.atoms_of part frame) _ (then_leaves (part frame) _ (h frame) (λ xs f. (_, refl))) (λ values f. (_, refl))

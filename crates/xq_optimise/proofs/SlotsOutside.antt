@@ -21,9 +21,9 @@ use Rattle.xq_meaning.specs.Items.{Item}
 use Rattle.xq_meaning.specs.PlanMeaning.{Slots, Frame, Meaning, next_step, plan_mean, plan_step_mean}
 use Rattle.xq_meaning.specs.Same.{frame_of}
 use Rattle.xq_meaning.proofs.PlanEquations as plan_eq
-use Rattle.xq_meaning.proofs.SameForms.{AreRelated, then_same, in_turn_same, Same, AllSame, SameOperand, call_same, sequence_same, chain_same, unary_same, map_same, or_same, and_same, filter_same, slash_same, step_same}
+use Rattle.xq_meaning.proofs.SameForms.{AreRelated, then_same, in_turn_same, Same, AllSame, SameOperand, call_same, sequence_same, chain_same, unary_same, conditional_same, map_same, or_same, and_same, filter_same, slash_same, step_same}
 use Rattle.xq_optimise.specs.private.Joins.{ReadsOutside, IsOutside, OperandOutside, StepOutside}
-use Rattle.xq_optimise.proofs.Leaving.{Quiet, Leaves, then_leaves, turns_leave, call_quiet, sequence_quiet, or_quiet, and_quiet, unary_quiet, chain_quiet, map_quiet, filter_quiet, step_quiet, slash_leaves, scan_leaves, root_quiet}
+use Rattle.xq_optimise.proofs.Leaving.{Quiet, Leaves, then_leaves, turns_leave, call_quiet, sequence_quiet, or_quiet, and_quiet, if_quiet, unary_quiet, chain_quiet, map_quiet, filter_quiet, step_quiet, slash_leaves, scan_leaves, root_quiet}
 
 value_outside : (n : ℕ) (slots more : Slots) → n < length slots → value_at n (slots ++ more) ≡ value_at n slots
 value_outside n [] more h = absurd (omega arith)
@@ -104,6 +104,11 @@ module _ (outer : ℕ) where
   pub and_outside : (ps : List Plan) (p : Plan) → p ≡ plan.And ps → AllByRecursion (IsOutside outer) ps → IsOutside outer p
   and_outside ps p is all = by_meaning p _ (ap plan_mean is ∙ plan_eq.plan-And ps) (and_quiet (map plan_mean ps) (quiets ps all))
       (λ slots more addresses at. and_same addresses (slots ++ more) slots (map plan_mean ps) (map plan_mean ps) (alls ps all slots more addresses at))
+
+  pub if_outside : (q r z p : Plan) → p ≡ plan.If q r z → IsOutside outer q → IsOutside outer r → IsOutside outer z → IsOutside outer p
+  if_outside q r z p is h k l = by_meaning p _ (ap plan_mean is ∙ plan_eq.plan-If q r z) (if_quiet (plan_mean q) (plan_mean r) (plan_mean z) h.1 k.1 l.1)
+      (λ slots more addresses at. conditional_same addresses (slots ++ more) slots (plan_mean q) (plan_mean r) (plan_mean z) (plan_mean q) (plan_mean r) (plan_mean z)
+      (alike q h slots more addresses at) (alike r k slots more addresses at) (alike z l slots more addresses at))
 
   pub unary_outside : (signs : List Sign) (q p : Plan) → p ≡ plan.Unary signs q → IsOutside outer q → IsOutside outer p
   unary_outside signs q p is h = by_meaning p _ (ap plan_mean is ∙ plan_eq.plan-Unary signs q) (unary_quiet signs (plan_mean q) h.1)

@@ -23,6 +23,11 @@ pub fn reads_outside(outer: usize, plan: &Plan) -> bool
         Plan::Or(parts) => all_read_outside(outer, parts.as_slice()),
         Plan::And(parts) => all_read_outside(outer, parts.as_slice()),
         Plan::Unary(_, part) => reads_outside(outer, part.get()),
+        Plan::If(test, positive, negative) => {
+            reads_outside(outer, test.get())
+                && reads_outside(outer, positive.get())
+                && reads_outside(outer, negative.get())
+        }
         Plan::Chain(first, rest) => {
             reads_outside(outer, first.get()) && operands_read_outside(outer, rest.as_slice())
         }

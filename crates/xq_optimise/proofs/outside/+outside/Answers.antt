@@ -1,8 +1,10 @@
-use Rattle.std.proofs.Common.{refl, subst, arith}
+use Rattle.std.proofs.Common.{refl, sym, subst, ◌∙◌, arith}
+use Rattle.std.proofs.lemmas.Bool.{false≢true}
 use Rattle.std.specs.List.{AllByRecursion}
 use Rattle.xq_optimise.specs.private.Joins.{IsOutside, OperandOutside, StepOutside}
 use Rattle.xq_optimise.proofs.Elements.{all_next}
 use Rattle.xq_optimise.proofs.SlotsOutside as slots
+use Rattle.xq_optimise.proofs.outside.+outside.Goals.{reads_outside-then-reads_outside, reads_outside-else-reads_outside}
 use Rattle.xq_optimise.proofs.outside.+outside.Goals as goal
 
 pub reads_outside-returns-in-Int : goal.reads_outside-returns-in-Int
@@ -63,34 +65,44 @@ reads_outside-returns-in-And t c = λ e.
     slots.and_outside c.args.outer c.in-And.parts c.args.plan.now c.in-And.is
     (subst (AllByRecursion (IsOutside c.args.outer)) c.as_slice-in-And.ensures (c.all_read_outside-in-And.ensures e))
 
-pub reads_outside-returns-then-reads_outside : goal.reads_outside-returns-then-reads_outside
-reads_outside-returns-then-reads_outside t c = λ e.
-    slots.chain_outside c.args.outer c.in-Chain.first c.in-Chain.rest c.args.plan.now c.in-Chain.is
-    (subst (IsOutside c.args.outer) c.get-in-Chain.ensures (c.if-reads_outside.ensures refl))
-    (subst (AllByRecursion (OperandOutside c.args.outer)) c.as_slice-then-reads_outside.ensures (c.operands_read_outside.ensures e))
-
 pub reads_outside-returns-then-reads_outside-2 : goal.reads_outside-returns-then-reads_outside-2
 reads_outside-returns-then-reads_outside-2 t c = λ e.
-    slots.map_outside c.args.outer c.in-Map.start c.in-Map.parts c.args.plan.now c.in-Map.is
-    (subst (IsOutside c.args.outer) c.get-in-Map.ensures (c.if-reads_outside-2.ensures refl))
-    (subst (AllByRecursion (IsOutside c.args.outer)) c.as_slice-then-reads_outside-2.ensures (c.all_read_outside-then-reads_outside-2.ensures e))
+    elim c.if-reads_outside.branch [
+      | reads_outside-then-reads_outside w ↦ slots.if_outside c.args.outer c.in-If.test c.in-If.positive c.in-If.negative c.args.plan.now c.in-If.is
+          (subst (IsOutside c.args.outer) c.get-in-If.ensures (w.if-reads_outside.ensures refl))
+          (subst (IsOutside c.args.outer) w.get-then-reads_outside.ensures (w.reads_outside-then-reads_outside.ensures (sym w.value-is ∙ c.if-reads_outside-2.true)))
+          (subst (IsOutside c.args.outer) c.get-then-reads_outside-2.ensures (c.reads_outside-then-reads_outside-2.ensures e))
+      | reads_outside-else-reads_outside w ↦ absurd (false≢true (sym w.if-reads_outside.false ∙ sym w.value-is ∙ c.if-reads_outside-2.true))
+    ]
 
 pub reads_outside-returns-then-reads_outside-3 : goal.reads_outside-returns-then-reads_outside-3
 reads_outside-returns-then-reads_outside-3 t c = λ e.
+    slots.chain_outside c.args.outer c.in-Chain.first c.in-Chain.rest c.args.plan.now c.in-Chain.is
+    (subst (IsOutside c.args.outer) c.get-in-Chain.ensures (c.if-reads_outside-3.ensures refl))
+    (subst (AllByRecursion (OperandOutside c.args.outer)) c.as_slice-then-reads_outside-3.ensures (c.operands_read_outside.ensures e))
+
+pub reads_outside-returns-then-reads_outside-4 : goal.reads_outside-returns-then-reads_outside-4
+reads_outside-returns-then-reads_outside-4 t c = λ e.
+    slots.map_outside c.args.outer c.in-Map.start c.in-Map.parts c.args.plan.now c.in-Map.is
+    (subst (IsOutside c.args.outer) c.get-in-Map.ensures (c.if-reads_outside-4.ensures refl))
+    (subst (AllByRecursion (IsOutside c.args.outer)) c.as_slice-then-reads_outside-4.ensures (c.all_read_outside-then-reads_outside-4.ensures e))
+
+pub reads_outside-returns-then-reads_outside-5 : goal.reads_outside-returns-then-reads_outside-5
+reads_outside-returns-then-reads_outside-5 t c = λ e.
     slots.filter_outside c.args.outer c.in-Filter.start c.in-Filter.predicates c.args.plan.now c.in-Filter.is
-    (subst (IsOutside c.args.outer) c.get-in-Filter.ensures (c.if-reads_outside-3.ensures refl))
-    (subst (AllByRecursion (IsOutside c.args.outer)) c.as_slice-then-reads_outside-3.ensures (c.all_read_outside-then-reads_outside-3.ensures e))
+    (subst (IsOutside c.args.outer) c.get-in-Filter.ensures (c.if-reads_outside-5.ensures refl))
+    (subst (AllByRecursion (IsOutside c.args.outer)) c.as_slice-then-reads_outside-5.ensures (c.all_read_outside-then-reads_outside-5.ensures e))
 
 pub reads_outside-returns-in-Step : goal.reads_outside-returns-in-Step
 reads_outside-returns-in-Step t c = λ e.
     slots.step_outside c.args.outer c.in-Step.field-0 c.in-Step.field-1 c.in-Step.predicates c.args.plan.now c.in-Step.is
     (subst (AllByRecursion (IsOutside c.args.outer)) c.as_slice-in-Step.ensures (c.all_read_outside-in-Step.ensures e))
 
-pub reads_outside-returns-then-reads_outside-4 : goal.reads_outside-returns-then-reads_outside-4
-reads_outside-returns-then-reads_outside-4 t c = λ e.
+pub reads_outside-returns-then-reads_outside-6 : goal.reads_outside-returns-then-reads_outside-6
+reads_outside-returns-then-reads_outside-6 t c = λ e.
     slots.path_outside c.args.outer c.in-Path.start c.in-Path.steps c.args.plan.now c.in-Path.is
-    (subst (IsOutside c.args.outer) c.get-in-Path.ensures (c.if-reads_outside-4.ensures refl))
-    (subst (AllByRecursion (StepOutside c.args.outer)) c.as_slice-then-reads_outside-4.ensures (c.steps_read_outside.ensures e))
+    (subst (IsOutside c.args.outer) c.get-in-Path.ensures (c.if-reads_outside-6.ensures refl))
+    (subst (AllByRecursion (StepOutside c.args.outer)) c.as_slice-then-reads_outside-6.ensures (c.steps_read_outside.ensures e))
 
 pub step_reads_outside-returns-in-Each : goal.step_reads_outside-returns-in-Each
 step_reads_outside-returns-in-Each t c = λ e.
