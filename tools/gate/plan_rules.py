@@ -14,11 +14,15 @@ from tools.gate.plan_forms import Form
 
 RULES = {
     "joins": "a `for` and the `where` after it are a `join`",
+    "nested": "a FLWOR goes on with the clauses of one that it returns",
     "order": "an equality stands before clauses that it doesn't need",
     "positions": "`position()` stands first in a general comparison with a number",
     "predicates": "a conjunction in a predicate is as many predicates",
+    "returns": "a conditional that is returned is a `where`",
     "scanned": "predicates are judged over all nodes of a scan",
+    "some_pairs": "`some` of one pair of texts is a general comparison",
     "wheres": "a conjunction in a `where` is as many `where` clauses",
+    "written": "a variable that an equality reads is written out",
 }
 # A form of the optimised plan, and the rule that made it so.
 Marks = list[tuple[Form, str]]
@@ -30,6 +34,8 @@ def derived(before: Form, after: Form) -> Marks | None:
     """The rules that make one form of another, by where they did; None where these rules don't."""
     if before.word == "path" and (found := of_path(before, after)) is not None:
         return found
+    if before.word == "quantified" and after.word == "chain":
+        return of_some(before, after)
     if before.word != after.word:
         return None
     found = by_parts(before, after)
@@ -213,22 +219,62 @@ def written_out(join: Form) -> tuple[Form, Form]:
     return Form("for", (), (range_,)), Form("where", (), (test,))
 
 
-def of_where(before: Form, left: Sequence[Form]) -> tuple[list[Form], Marks] | None:
-    """The `where` clauses among these that stand for one."""
+def of_some(before: Form, after: Form) -> Marks | None:
+    """The rule that makes a general comparison of a quantified expression with one variable."""
+    ranges, test = before.parts[:-1], before.parts[-1].parts[0]
+    if before.words != ("some",) or len(ranges) != 1 or test.word != "chain":
+        return None
+    found = in_turn((*ranges[0].parts, *test.parts[1:]), after.parts)
+    return None if found is None else [(after, "some_pairs"), *found]
+
+
+def continued(value: Form, side: Form) -> Form:
+    """The scans of one side of a comparison, from the value of its variable."""
+    more = side.parts[1:] if side.word == "path" else ()
+    start = value.parts if value.word == "path" else (value,)
+    return Form("path", (), (*start, *more)) if len(start) + len(more) > 1 else value
+
+
+def with_values(before: Form, after: Form, values: Sequence[Form]) -> bool:
+    """Whether one test is another in which slots may have given way to values."""
+    old, new = (it.parts[0] for it in (before, after))
+    if not old.word == new.word == "chain" or len(old.parts) != 2 or len(new.parts) != 2:
+        return False
+    if old.parts[1].words != new.parts[1].words:
+        return False
+    sides = ((old.parts[0], new.parts[0]), (old.parts[1].parts[0], new.parts[1].parts[0]))
+    return all(any(derived(it, right) is not None for it in (
+        left, *(continued(value, left) for value in values))) for left, right in sides)
+
+
+def of_where(before: Form, left: Sequence[Form], values: Sequence[Form],
+             ) -> tuple[list[Form], Marks] | None:
+    """The `where` clauses among these that stand for one, where variables have these values."""
     whole = assigned([before], left)
-    if whole is not None or before.parts[0].word != "and":
+    if whole is not None:
         return whole
-    found = assigned([Form("where", (), (it,)) for it in before.parts[0].parts], left)
-    return found and (found[0], [*found[1], *((it, "wheres") for it in found[0])])
+    if before.parts[0].word == "and":
+        places, marks = list[Form](), Marks()
+        for part in before.parts[0].parts:
+            rest = [it for it in left if it not in places]
+            found = of_where(Form("where", (), (part,)), rest, values)
+            if found is None:
+                return None
+            places += found[0]
+            marks += [*found[1], *((it, "wheres") for it in found[0])]
+        return places, marks
+    written = [it for it in left if with_values(before, it, values)][:1]
+    return (written, [(it, "written") for it in written]) if written else None
 
 
 def of_clauses(before: Sequence[Form], after: Sequence[Form]) -> Marks | None:
     """The rules among clauses, in which the joins are written out."""
     tests = [it for it in after if it.word == "where"]
     others = collections.deque(it for it in after if it.word != "where")
-    places, marks = list[Form](), Marks()
+    places, marks, values = list[Form](), Marks(), list[Form]()
     for old in before:
-        found = of_where(old, tests) if old.word == "where" else (
+        values += old.parts if old.word == "let" else ()
+        found = of_where(old, tests, values) if old.word == "where" else (
             assigned([old], [others.popleft()]) if others else None)
         if found is None:
             return None
@@ -248,10 +294,22 @@ def of_flwor(before: Form, after: Form) -> Marks | None:
         written = written_out(clause) if clause.word == "join" else (clause,)
         clauses += written
         of_join |= dict.fromkeys(written, clause) if clause.word == "join" else {}
-    found = of_clauses(before.parts[:-1], clauses)
-    result = derived(before.parts[-1], after.parts[-1])
+    olds, returned = before.parts[:-1], before.parts[-1].parts[0]
+    is_nested = returned.word == "flwor" and after.parts[-1].parts[0].word != "flwor"
+    if is_nested:
+        olds, returned = (*olds, *returned.parts[:-1]), returned.parts[-1].parts[0]
+    is_where = returned.word == "if" and after.parts[-1].parts[0].word != "if"
+    if is_where:
+        olds = (*olds, Form("where", (), returned.parts[:1]))
+        returned = returned.parts[1].parts[0]
+    found = of_clauses(olds, clauses)
+    result = derived(returned, after.parts[-1].parts[0])
     if found is None or result is None:
         return None
+    if is_where:
+        found += [(it, "returns") for it in [it for it in clauses if it.word == "where"][-1:]]
+    if is_nested:
+        found.append((after, "nested"))
     joins = [(it, "joins") for it in dict.fromkeys(of_join.values())]
     return [*((of_join.get(it, it), rule) for it, rule in found), *joins, *result]
 

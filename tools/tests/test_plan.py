@@ -15,7 +15,7 @@ from tools.gate.plan_forms import Form, Layout
 from tools.rows import tables
 
 # Files of the optimiser that are no rule: the pass, and what its rules ask.
-NO_RULES = {"held", "kinds", "lib", "lists", "scopes", "sure", "walk"}
+NO_RULES = {"held", "kinds", "lib", "lists", "outside", "scopes", "sure", "walk"}
 FORM = ('(flwor (for at (call doc (string "a b"))) (join eq (path (slot 0) (scan child (element)))'
         ' (carried 0) (key value 2 (scan child (element "a")) (scan attribute (attribute "id")))'
         ' (key string 1 (scan child (text))))'
@@ -46,6 +46,7 @@ def step(*predicates: str) -> str:
 
 ID, B = 'attribute (attribute "id")', 'child (element "b")'
 EQUAL = f"(chain {path(1, ID)} (operand = {path(0, ID)}))"
+READS = f"(chain (slot 2) (operand = {path(0, ID)}))"
 TITLE = path(1, 'child (element "t")')
 RANGE = f"(for {path(0, B)})"
 JOIN = f"(join = {path(0, B)} (carried 0) (key value 1 (scan {ID})) (key value 0 (scan {ID})))"
@@ -66,15 +67,26 @@ DERIVED = (
      f"(path (filter (path (root) (scan {B})) {TEST}) (scan child (text)))", ["scanned"]),
     (f"(path (root) (each {step(f'(and {TEST} {TEST})')}))",
      f"(filter (path (root) (scan {B})) {TEST} {TEST})", ["predicates", "scanned"]),
+    (f"(flwor {RANGE} {RANGE} (return (if {EQUAL} (then (slot 1)) (else (sequence)))))",
+     f"(flwor {RANGE} {JOIN} {LAST})", ["joins", "returns"]),
+    (f"(flwor {RANGE} (return (flwor {RANGE} (where {EQUAL}) {LAST})))",
+     f"(flwor {RANGE} {JOIN} {LAST})", ["joins", "nested"]),
+    (f"(flwor {RANGE} {RANGE} (let {path(1, ID)}) (where {READS}) {LAST})",
+     f"(flwor {RANGE} {JOIN} (let {path(1, ID)}) {LAST})", ["joins", "order", "written"]),
+    (f"(quantified some (in {path(1, ID)}) (satisfies {READS}))", EQUAL, ["some_pairs"]),
 )
 # Of each rule a query to which it applies.
 QUERIES = {
     "joins": 'for $a in doc("x")//a, $b in doc("x")//b where $b/@id = $a/@id return $b',
+    "nested": 'for $a in doc("x")//a return for $b in $a/b return $b',
     "order": 'for $a in doc("x")//a let $c := $a/c where $c where $a/@id = "1" return $a',
     "positions": 'doc("x")/a[3 eq position()]',
     "predicates": 'doc("x")/a[b and position() < 3]',
+    "returns": 'for $a in doc("x")//a return if ($a/@id = "1") then $a else ()',
     "scanned": 'doc("x")/a/b[@id = "1"]/c',
+    "some_pairs": 'for $a in doc("x")//a where some $b in $a/b satisfies $b = "1" return $a',
     "wheres": 'for $a in doc("x")//a where $a/b and $a/@id = "1" return $a',
+    "written": 'for $a in doc("x")//a let $b := $a/b where $b = $a/c return $a',
 }
 # Queries that are refused by the lexer, by the parser and by the static checks.
 REFUSED = {"1e0": "prof:DOUBLE", "1 +": "XPST0003", "$x": "XPST0008", "count()": "XPST0017"}

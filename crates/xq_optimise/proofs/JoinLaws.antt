@@ -43,7 +43,7 @@ use Rattle.xq_optimise.proofs.Flwor.{one_follows, all_held}
 
 -- # Keys
 
-slot_is : (n : ℕ) (frame : Frame) (f : List Tree) → plan_mean (plan.Slot n) frame f ≡ (Ok (value_at n frame.env), f)
+pub slot_is : (n : ℕ) (frame : Frame) (f : List Tree) → plan_mean (plan.Slot n) frame f ≡ (Ok (value_at n frame.env), f)
 slot_is n frame f = ap (λ m. m frame f) (plan_eq.plan-Slot n)
 
 scans_are : (frame : Frame) (scans : List (Axis × Test)) (xs : List Item) (f : List Tree) →
@@ -54,10 +54,10 @@ scans_are frame (s ∷ ss) xs f =
     ∙ ap (λ m. go_on (m frame xs f) (λ next. in_turn (next_step frame) next (map plan_step_mean (map scan_step ss)))) (sym (plan_eq.step-Scan s.0 s.1))
 
 -- what a key takes its form of
-abbrev led : JoinKey → Frame → Doing (List Item)
+abbrev pub led : JoinKey → Frame → Doing (List Item)
 led key frame = in_turn (λ zs (s : Axis × Test). Forms.scan s.0 s.1 zs) (value_at key.slot frame.env) key.scans
 
-starts : (key : JoinKey) (p : Plan) → StartsAt key.slot key.scans p → (frame : Frame) (f : List Tree) → led key frame f ≡ plan_mean p frame f
+pub starts : (key : JoinKey) (p : Plan) → StartsAt key.slot key.scans p → (frame : Frame) (f : List Tree) → led key frame f ≡ plan_mean p frame f
 starts key p at frame f = elim at [
   | inl is ↦ (
       ap (λ ss. in_turn (λ zs (s : Axis × Test). Forms.scan s.0 s.1 zs) (value_at key.slot frame.env) ss f) is.1

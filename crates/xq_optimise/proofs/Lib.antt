@@ -17,4 +17,10 @@ pub mod NodesAtOnce
 pub mod WholePaths
 pub mod Rising
 pub mod JoinLaws
+pub mod Leaving
 pub mod SlotsOutside
+pub mod TupleByTuple
+pub mod NestedReturns
+pub mod WrittenOut
+pub mod Conditionals
+pub mod OnePair

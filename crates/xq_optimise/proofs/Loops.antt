@@ -310,6 +310,12 @@ pub scope_left : (start : ℕ) (old now last new : List Held) → start ≡ leng
 scope_left start old now last new is more kept left =
     left ∙ ap (take start) kept ∙ more ∙ take_all start old (omega (arith, is))
 
+-- the slots of a FLWOR are forgotten behind its return
+pub scope_kept : (start : ℕ) (old now last new : List Held) → start ≡ length old → take start now ≡ take start old →
+    take start last ≡ take start now → new ≡ take start last → new ≡ old
+scope_kept start old now last new is more kept left =
+    left ∙ kept ∙ more ∙ take_all start old (omega (arith, is))
+
 pub ranges_left : (start : ℕ) (old now last new : List Held) (ps qs : List Plan) → start ≡ length old →
     SameRanges old ps qs now → last ≡ now → new ≡ take start last → new ≡ old
 ranges_left start old now last new ps qs is all kept left =

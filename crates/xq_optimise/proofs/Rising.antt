@@ -9,6 +9,7 @@ use Rattle.xq_expressions.specs.declared.operators.AllowingEmpty.{AllowingEmpty}
 use Rattle.xq_expressions.specs.declared.operators.OrderModifier.{OrderModifier}
 use Rattle.xq_trees.specs.Tree.{Tree}
 use Rattle.xq_trees.specs.Tuples.{Tuple, satisfying, bound}
+use Rattle.xq_trees.proofs.Lists.{all_append}
 use Rattle.xq_meaning.specs.declared.plans.Plan.{Plan}
 use Rattle.xq_meaning.specs.declared.plans.Plan.TheVariants as plan
 use Rattle.xq_meaning.specs.declared.plans.PlanClause.{PlanClause}
@@ -28,7 +29,7 @@ use Rattle.xq_optimise.specs.Known.{Fits}
 use Rattle.xq_optimise.specs.Same.{GivesSame}
 use Rattle.xq_optimise.specs.Sure.{SurelyTells, SurelyNodes, ReadsBelow, IsTest}
 use Rattle.xq_optimise.specs.private.Parts.{AreAll, AllFit, IsHeld, GivesHeld, GivesFitting, SameClause, SameMany, SameKey, Extends, with_position, forgotten}
-use Rattle.xq_optimise.specs.private.Order.{Rises, IsPassed, SameRest, SameTurns}
+use Rattle.xq_optimise.specs.private.Order.{Rises, IsPassed, SameRest, SameTurns, SameBehind, TakesBack}
 use Rattle.xq_optimise.proofs.Fitting.{fits_length}
 use Rattle.xq_optimise.proofs.Flwor.{itself_follows, one_follows, for_follows, let_follows, where_follows, order_follows, count_follows, group_follows, refused_follows}
 use Rattle.xq_optimise.proofs.Loops.{Leads, leads_next, extends_itself, extends_then}
@@ -74,7 +75,7 @@ module _ (known : List Held) (slots : Slots) (focus : Option Focus) (addresses :
   abbrev frame : Frame
   frame = frame_of slots focus addresses
 
-  abbrev value_of : Plan → Tuple Item → Doing (List Item)
+  abbrev pub value_of : Plan → Tuple Item → Doing (List Item)
   value_of p t = plan_mean p (at_tuple frame t)
 
   values : (p : Plan) → SurelyNodes known p → (ts : List (Tuple Item)) → AllFit known slots ts →
@@ -85,7 +86,7 @@ module _ (known : List Held) (slots : Slots) (focus : Option Focus) (addresses :
       let rest = values p h ts w.1 in
       (map Node first.0 ∷ rest.0, (first.1, rest.1))
 
-  let_told : (p : Plan) (ts : List (Tuple Item)) (vs : List (List Item)) → AreAll (Tells (value_of p) f) ts vs →
+  pub let_told : (p : Plan) (ts : List (Tuple Item)) (vs : List (List Item)) → AreAll (Tells (value_of p) f) ts vs →
       plan_clause_mean (clause.Let p) frame ts f ≡ (Ok (bound ts vs), f)
   let_told p ts vs h =
       ap (λ m. m frame ts f) (plan_eq.clause-Let p)
@@ -289,11 +290,13 @@ passed_next known passed passed' c h is pushed =
 -- the clauses that were taken off, in the order in which they come
 pub record TakenOff (known : List Held) (all left passed : List PlanClause) : Type 0 where
   pub whole : left ++ reverse passed ≡ all
+  pub each : AllByRecursion (IsPassed known) passed
   pub by : PassedBy known passed
 
 pub none_off : (known : List Held) (all left passed : List PlanClause) → left ≡ all → passed ≡ [] → TakenOff known all left passed
 none_off known all left passed same none = record {
   whole = ap (λ l. left ++ reverse l) none ∙ append-nil left ∙ same;
+  each = subst (AllByRecursion (IsPassed known)) (sym none) tt;
   by = none_passed known passed none;
 }
 
@@ -303,6 +306,7 @@ one_off known all left rest passed passed' c h cut is pushed = record {
   whole =
       ap (λ l. rest ++ l) (ap reverse pushed ∙ reverse-append passed (c ∷ []))
       ∙ sym (append_assoc rest (c ∷ []) (reverse passed)) ∙ ap (λ l. l ++ reverse passed) (sym cut) ∙ h.whole;
+  each = subst (AllByRecursion (IsPassed known)) (sym pushed) (all_append (IsPassed known) passed (c ∷ []) h.each (is, tt));
   by = passed_next known passed passed' c h.by is pushed;
 }
 
@@ -310,48 +314,67 @@ pub same_rest : (start : ℕ) (known : List Held) (old new : List PlanClause) �
 same_rest start known old new is slots focus addresses l ts trees w =
     ap (λ cs. in_turn (next_clause (frame_of slots focus addresses)) ts (map plan_clause_mean (reverse cs)) trees) is
 
--- a test that rises
-pub test_risen : (known : List Held) (all left rest passed new : List PlanClause) (c : PlanClause) → TakenOff known all left passed →
-    left ≡ rest ++ c ∷ [] → Rises known c → new ≡ (rest ++ reverse passed) ++ c ∷ [] →
+-- a test that tells before them what the next clause tells behind them
+pub written_risen : (known : List Held) (all left rest passed new : List PlanClause) (c : PlanClause) (q : Plan) → TakenOff known all left passed →
+    left ≡ rest ++ c ∷ [] → IsTest known q → SameBehind known passed c (clause.Where q) → new ≡ (rest ++ reverse passed) ++ clause.Where q ∷ [] →
     (start : ℕ) → SameRest start known all new
-test_risen known all left rest passed new c h cut (q, is, test) pushed start slots focus addresses l ts trees w =
+written_risen known all left rest passed new c q h cut test same pushed start slots focus addresses l ts trees w =
     let act = next_clause (frame_of slots focus addresses) in
+    let d = clause.Where q in
     let others = reverse rest in
     let apart : (cs : List PlanClause) → in_turn act ts (map plan_clause_mean (cs ++ others)) trees
     ≡ go_on (in_turn act ts (map plan_clause_mean cs) trees) (λ n. in_turn act n (map plan_clause_mean others)) =
     λ cs. ap (λ ms. in_turn act ts ms trees) (map-append plan_clause_mean cs others) ∙ in_turn-append act ts (map plan_clause_mean cs) (map plan_clause_mean others) trees in
-    let now : reverse new ≡ (c ∷ passed) ++ others =
-    ap reverse pushed ∙ reverse-append (rest ++ reverse passed) (c ∷ [])
-    ∙ ap (λ l. c ∷ l) (reverse-append rest (reverse passed) ∙ ap (λ l. l ++ others) (reverse-reverse passed)) in
+    let now : reverse new ≡ (d ∷ passed) ++ others =
+    ap reverse pushed ∙ reverse-append (rest ++ reverse passed) (d ∷ [])
+    ∙ ap (λ l. d ∷ l) (reverse-append rest (reverse passed) ∙ ap (λ l. l ++ others) (reverse-reverse passed)) in
     let was : reverse all ≡ (passed ++ c ∷ []) ++ others =
     ap reverse (sym h.whole ∙ ap (λ l. l ++ reverse passed) cut) ∙ reverse-append (rest ++ c ∷ []) (reverse passed)
     ∙ ap (λ l. reverse (reverse passed) ++ l) (reverse-append rest (c ∷ [])) ∙ ap (λ l. l ++ c ∷ others) (reverse-reverse passed)
     ∙ sym (append_assoc passed (c ∷ []) others) in
     ap (λ cs. in_turn act ts (map plan_clause_mean cs) trees) now
-    ∙ apart (c ∷ passed)
+    ∙ apart (d ∷ passed)
     ∙ ap (λ o. go_on o (λ n. in_turn act n (map plan_clause_mean others)))
-    (ap (λ d. in_turn act ts (map plan_clause_mean (d ∷ passed)) trees) is
-    ∙ sym (h.by.swaps q test slots focus addresses ts trees w)
-    ∙ ap (λ d. in_turn act ts (map plan_clause_mean (passed ++ d ∷ [])) trees) (sym is))
+    (sym (h.by.swaps q test slots focus addresses ts trees w) ∙ same slots focus addresses ts trees w)
     ∙ sym (apart (passed ++ c ∷ []))
     ∙ ap (λ cs. in_turn act ts (map plan_clause_mean cs) trees) (sym was)
 
-pub risen_long : (known : List Held) (all left rest passed new : List PlanClause) (c : PlanClause) → TakenOff known all left passed →
-    left ≡ rest ++ c ∷ [] → new ≡ (rest ++ reverse passed) ++ c ∷ [] → length new ≡ length all
-risen_long known all left rest passed new c h cut pushed =
+-- a test that rises
+pub test_risen : (known : List Held) (all left rest passed new : List PlanClause) (c : PlanClause) → TakenOff known all left passed →
+    left ≡ rest ++ c ∷ [] → Rises known c → new ≡ (rest ++ reverse passed) ++ c ∷ [] →
+    (start : ℕ) → SameRest start known all new
+test_risen known all left rest passed new c h cut (q, is, test) pushed start =
+    written_risen known all left rest passed new c q h cut test
+    (λ slots focus addresses ts trees w. ap (λ d. in_turn (next_clause (frame_of slots focus addresses)) ts (map plan_clause_mean (passed ++ d ∷ [])) trees) (sym is))
+    (pushed ∙ ap (λ d. (rest ++ reverse passed) ++ d ∷ []) is) start
+
+pub risen_long : (known : List Held) (all left rest passed new : List PlanClause) (c d : PlanClause) → TakenOff known all left passed →
+    left ≡ rest ++ c ∷ [] → new ≡ (rest ++ reverse passed) ++ d ∷ [] → length new ≡ length all
+risen_long known all left rest passed new c d h cut pushed =
     let was = ap length (sym h.whole ∙ ap (λ l. l ++ reverse passed) cut) in
     let now = ap length pushed in
-    let a = length-append (rest ++ reverse passed) (c ∷ []) in
+    let a = length-append (rest ++ reverse passed) (d ∷ []) in
     let b = length-append rest (reverse passed) in
-    let d = length-append (rest ++ c ∷ []) (reverse passed) in
-    let e = length-append rest (c ∷ []) in
-    omega (arith, was, now, a, b, d, e)
+    let e = length-append (rest ++ c ∷ []) (reverse passed) in
+    let g = length-append rest (c ∷ []) in
+    omega (arith, was, now, a, b, e, g)
 
 -- one that stays
 pub all_unmoved : (known : List Held) (all left rest passed new : List PlanClause) (c : PlanClause) → TakenOff known all left passed →
     left ≡ rest ++ c ∷ [] → new ≡ (rest ++ c ∷ []) ++ reverse passed → new ≡ all
 all_unmoved known all left rest passed new c h cut pushed =
     pushed ∙ ap (λ l. l ++ reverse passed) (sym cut) ∙ h.whole
+
+-- either of both
+pub taken_back : (known : List Held) (all left rest passed new : List PlanClause) (c : PlanClause) → TakenOff known all left passed →
+    left ≡ rest ++ c ∷ [] → TakesBack known rest passed c new → ((start : ℕ) → SameRest start known all new) × (length new ≡ length all)
+taken_back known all left rest passed new c h cut (inl stays) =
+    let same = all_unmoved known all left rest passed new c h cut stays in
+    (λ start. same_rest start known all new same, ap length same)
+taken_back known all left rest passed new c h cut (inr (q, test, same, pushed)) = (
+  λ start. written_risen known all left rest passed new c q h cut test same pushed start,
+  risen_long known all left rest passed new c (clause.Where q) h cut pushed,
+)
 
 -- # The loop
 

@@ -41,7 +41,7 @@ texts_compare op a (Integer n) h k = absurd k
 texts_compare op a (Decimal n) h k = absurd k
 texts_compare op a (Boolean n) h k = absurd k
 
-one_or_more : (op : CompOp) (a : Atomic) (bs : List Atomic) → IsText a → AllByRecursion IsText bs →
+pub one_or_more : (op : CompOp) (a : Atomic) (bs : List Atomic) → IsText a → AllByRecursion IsText bs →
     (truth : Bool) × (some_with op a bs ≡ Ok truth)
 one_or_more op a [] h k = (false, refl)
 one_or_more op a (b ∷ bs) h k =

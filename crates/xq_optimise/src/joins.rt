@@ -103,7 +103,7 @@ fn path_key(
 }
 
 /// The key of this form that a slot, or scans from one, are.
-fn slot_key(alloc: Global, form: KeyForm, plan: &Plan) -> Result<Option<JoinKey>, AllocError>
+pub fn slot_key(alloc: Global, form: KeyForm, plan: &Plan) -> Result<Option<JoinKey>, AllocError>
     ensures { IfOk result (λ found. IfSome found (λ key. (key.form ≡ form)
         × StartsAt key.slot key.scans plan.now)) }
 {

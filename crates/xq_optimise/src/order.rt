@@ -1,7 +1,8 @@
 //! The order of clauses that can't be refused: an equality stands as near as it may to the `for`
 //! before it, where the two are a join (XQuery 3.1, section 3.12).
 ghost use Rattle.std.specs.Prelude.{◌≡◌, ◌≤◌, ◌++◌, ◌∷◌, [], ℕ, length, reverse, true, IfOk, OnOk};
-ghost use Rattle.xq_optimise.specs.private.Order.{IsPassed, Rises, SameRest, SameTurns};
+ghost use Rattle.std.specs.List.{AllByRecursion};
+ghost use Rattle.xq_optimise.specs.private.Order.{IsPassed, Rises, SameRest, SameTurns, TakesBack};
 ghost use Rattle.xq_optimise.specs.private.Parts as parts;
 
 use crate::held::Held;
@@ -9,6 +10,7 @@ use crate::kinds::held_by;
 use crate::lists::reversed;
 use crate::scopes::{bind, forget};
 use crate::sure::{as_comparison, is_nodes, is_test};
+use crate::written::written;
 use sqlite_items::{Boxed, Items};
 use std::alloc::{AllocError, Global};
 use xq_expressions::Relation;
@@ -92,6 +94,27 @@ fn unmoved(
     put_back(left, passed)
 }
 
+/// The clauses that are left, with the next one before those that it goes over where it may with
+/// the values of their variables written out, and else behind them.
+fn with_written(
+    alloc: Global,
+    known: &[Held],
+    left: Vec<PlanClause>,
+    passed: Vec<PlanClause>,
+    next: PlanClause,
+) -> Result<Vec<PlanClause>, AllocError>
+    requires { AllByRecursion (IsPassed known.now) passed.items }
+    ensures { IfOk result (λ after.
+        TakesBack known.now left.items passed.items next after.items) }
+{
+    // (boxed, since one call then drops it where memory is wanting)
+    let next = Boxed::new(alloc, next)?;
+    match written(alloc, known, passed.as_slice(), next.get())? {
+        Some(test) => with_first(alloc, left, passed, PlanClause::Where(test)),
+        None => unmoved(left, passed, next.into_inner()),
+    }
+}
+
 /// Whether a test that goes over so many clauses may go over one more.
 fn may_pass(known: &[Held], passed: &[PlanClause], next: &PlanClause) -> bool
     ensures { result ≡ true → IsPassed known.now next.now }
@@ -117,7 +140,7 @@ fn risen(
             return with_first(alloc, left, passed, next);
         }
         if !may_pass(known, passed.as_slice(), &next) {
-            return unmoved(left, passed, next);
+            return with_written(alloc, known, left, passed, next);
         }
         passed.push(next)?;
     }
@@ -125,7 +148,7 @@ fn risen(
 }
 
 /// Makes known what the slots hold after a clause.
-fn follow(known: &mut Vec<Held>, outer: usize, next: &PlanClause) -> Result<(), AllocError>
+pub fn follow(known: &mut Vec<Held>, outer: usize, next: &PlanClause) -> Result<(), AllocError>
     requires { outer ≤ length known.old.items }
     ensures same { OnOk result
         (parts.SameMany outer known.old.items next.now (next.now ∷ []) known.new.items) }

@@ -2,14 +2,14 @@
 //! section 3.12: the scope of variables).
 ghost use Rattle.std.specs.Prelude.{◌≡◌, true};
 ghost use Rattle.std.specs.List.{AllByRecursion};
-ghost use Rattle.xq_optimise.specs.private.Joins.{ReadsOutside, OperandOutside, StepOutside};
+ghost use Rattle.xq_optimise.specs.private.Joins.{IsOutside, OperandOutside, StepOutside};
 
 use xq_meaning::{Operator, Plan, PlanStep};
 
 /// Whether a part binds no variable, makes no node, and reads no slot but the first ones, so many.
 #[cycle(outside)]
 pub fn reads_outside(outer: usize, plan: &Plan) -> bool
-    ensures { result ≡ true → ReadsOutside outer plan.now }
+    ensures { result ≡ true → IsOutside outer plan.now }
 {
     match plan {
         Plan::Int(_) => true,
@@ -23,6 +23,11 @@ pub fn reads_outside(outer: usize, plan: &Plan) -> bool
         Plan::Or(parts) => all_read_outside(outer, parts.as_slice()),
         Plan::And(parts) => all_read_outside(outer, parts.as_slice()),
         Plan::Unary(_, part) => reads_outside(outer, part.get()),
+        Plan::If(test, positive, negative) => {
+            reads_outside(outer, test.get())
+                && reads_outside(outer, positive.get())
+                && reads_outside(outer, negative.get())
+        }
         Plan::Chain(first, rest) => {
             reads_outside(outer, first.get()) && operands_read_outside(outer, rest.as_slice())
         }
@@ -43,7 +48,7 @@ pub fn reads_outside(outer: usize, plan: &Plan) -> bool
 /// Whether each part does.
 #[cycle(outside)]
 fn all_read_outside(outer: usize, parts: &[Plan]) -> bool
-    ensures { result ≡ true → AllByRecursion (ReadsOutside outer) parts.now }
+    ensures { result ≡ true → AllByRecursion (IsOutside outer) parts.now }
 {
     for part in parts {
         if !reads_outside(outer, part) {

@@ -58,7 +58,7 @@ pub fn is_nodes(known: &[Held], plan: &Plan) -> bool
 }
 
 /// Whether the part is a string literal, or nodes by scans from a slot.
-fn is_texts(known: &[Held], plan: &Plan) -> bool
+pub fn is_texts(known: &[Held], plan: &Plan) -> bool
     ensures sure { result ≡ true → SurelyTexts known.now plan.now }
     ensures below { result ≡ true → ReadsBelow known.now plan.now }
 {

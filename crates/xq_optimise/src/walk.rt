@@ -2,17 +2,21 @@
 ghost use Rattle.std.specs.Prelude.{◌≡◌, ◌≤◌, IfOk, OnOk, length};
 ghost use Rattle.xq_meaning.specs.declared.plans.Plan.TheVariants as plan_of;
 ghost use Rattle.xq_optimise.specs.Same.{GivesSame};
+ghost use Rattle.xq_optimise.specs.private.FlworParts.{StandsForFlwor};
 ghost use Rattle.xq_optimise.specs.private.Parts as parts;
 
 use crate::held::Held;
 use crate::joins::with_joins;
 use crate::kinds::held_by;
 use crate::lists::reversed;
+use crate::nested::goes_on;
 use crate::order::arranged;
 use crate::positions::with_position_first;
 use crate::predicates::{spliced, spliced_after};
+use crate::returns::with_test_before;
 use crate::scanned;
 use crate::scopes::{bind, forget};
+use crate::some_pairs::quantified;
 use crate::wheres::{pushed, with_tests};
 use sqlite_items::{Boxed, Items};
 use std::alloc::{AllocError, Global};
@@ -77,7 +81,7 @@ pub fn expression(alloc: Global, known: &mut Vec<Held>, plan: Plan) -> Result<Pl
             let list = ranges(alloc, known, list)?;
             let part = boxed(alloc, known, part)?;
             known.truncate(outer);
-            Ok(Plan::Quantified(quantifier, list, part))
+            quantified(alloc, known, quantifier, list, part)
         }
         leaf => Ok(leaf),
     }
@@ -250,11 +254,75 @@ fn flwor(
 {
     let outer = known.len();
     let list = clauses(alloc, known, outer, list)?;
-    let part = boxed(alloc, known, part)?;
+    let whole = returned(alloc, known, outer, list, part)?;
     known.truncate(outer);
-    let sorted = arranged(alloc, known, list)?;
-    let joined = with_joins(alloc, outer, sorted)?;
-    Ok(Plan::Flwor(joined, part))
+    joined(alloc, known, whole)
+}
+
+/// A FLWOR with these clauses that returns this part, or one that gives the same. The slots of its
+/// tuples, those from a place on, stay known.
+#[cycle(walk)]
+fn returned(
+    alloc: Global,
+    known: &mut Vec<Held>,
+    outer: usize,
+    list: Items<PlanClause>,
+    part: Boxed<Plan>,
+) -> Result<Plan, AllocError>
+    requires { outer ≤ length known.old.items }
+    ensures stands { IfOk result (λ found.
+        StandsForFlwor outer known.old.items list part found) }
+    ensures outer { OnOk result (parts.Extends outer known.old.items known.new.items) }
+{
+    match part.into_inner() {
+        Plan::Flwor(more, last) => nested(alloc, known, outer, list, more, last),
+        other => {
+            let part = expression(alloc, known, other)?;
+            with_test_before(alloc, known, list, part)
+        }
+    }
+}
+
+/// A FLWOR with these clauses that returns one, or a FLWOR that gives the same: one with the clauses
+/// of both, where it may go on with them.
+#[cycle(walk)]
+fn nested(
+    alloc: Global,
+    known: &mut Vec<Held>,
+    outer: usize,
+    list: Items<PlanClause>,
+    more: Items<PlanClause>,
+    last: Boxed<Plan>,
+) -> Result<Plan, AllocError>
+    requires { outer ≤ length known.old.items }
+    ensures stands { IfOk result (λ found.
+        StandsForFlwor outer known.old.items list (plan_of.Flwor more last) found) }
+    ensures outer { OnOk result (parts.Extends outer known.old.items known.new.items) }
+{
+    if !goes_on(alloc, known, outer, more.as_slice(), last.get())? {
+        let part = flwor(alloc, known, more, last)?;
+        return Ok(Plan::Flwor(list, Boxed::new(alloc, part)?));
+    }
+    let more = clauses(alloc, known, outer, more)?;
+    let mut whole = list;
+    whole.append(more)?;
+    returned(alloc, known, outer, whole, last)
+}
+
+/// A FLWOR whose clauses are in the better order, with joins among them.
+fn joined(alloc: Global, known: &mut Vec<Held>, plan: Plan) -> Result<Plan, AllocError>
+    ensures same { IfOk result (λ found. GivesSame known.old.items plan found) }
+    ensures kept { OnOk result (known.new.items ≡ known.old.items) }
+{
+    match plan {
+        Plan::Flwor(list, part) => {
+            let outer = known.len();
+            let sorted = arranged(alloc, known, list)?;
+            let joined = with_joins(alloc, outer, sorted)?;
+            Ok(Plan::Flwor(joined, part))
+        }
+        other => Ok(other),
+    }
 }
 
 /// The clauses of a FLWOR, whose slots are those from a place on; they stay known.

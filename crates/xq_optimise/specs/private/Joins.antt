@@ -1,6 +1,7 @@
 -- What a join is to a `for` and a `where`.
 use Rattle.std.specs.Prelude.{◌≡◌, ◌<◌, ◌⊎◌, ℕ, List, [], ◌∷◌, ◌++◌, map, length, false, Option, Some, None}
 use Rattle.std.specs.List.{AllByRecursion}
+use Rattle.xq_atoms.specs.Judged.{Judged}
 use Rattle.xq_atoms.specs.Text.{Text}
 use Rattle.xq_expressions.specs.declared.operators.AllowingEmpty.TheVariants as allowing
 use Rattle.xq_trees.specs.declared.Axis.{Axis}
@@ -65,17 +66,33 @@ ReadsOutside outer p =
     plan_mean p (frame_of (slots ++ more) focus addresses) trees
     ≡ plan_mean p (frame_of slots focus addresses) trees
 
+-- the part gives a value or a code, and leaves the trees as they are
+abbrev pub LeavesTrees : Plan → Type 0
+LeavesTrees p =
+    (frame : Frame) (trees : List Tree) →
+    (given : Judged (List Item)) × (plan_mean p frame trees ≡ (given, trees))
+
+-- it reads no other slots, and leaves the trees
+abbrev pub IsOutside : ℕ → Plan → Type 0
+IsOutside outer p = ReadsOutside outer p × LeavesTrees p
+
 -- the same of an operand
 abbrev pub OperandOutside : ℕ → Operator × Plan → Type 0
-OperandOutside outer x = ReadsOutside outer x.1
+OperandOutside outer x = IsOutside outer x.1
 
--- and of what follows a slash
-abbrev pub StepOutside : ℕ → PlanStep → Type 0
-StepOutside outer s =
+-- what follows a slash reads no other slots
+abbrev pub StepReadsOutside : ℕ → PlanStep → Type 0
+StepReadsOutside outer s =
     (slots more : Slots) (focus : Option Focus) (addresses : List Text) (trees : List Tree) →
     (outer ≡ 0) ⊎ (outer ≡ length slots) → (xs : List Item) →
     plan_step_mean s (frame_of (slots ++ more) focus addresses) xs trees
     ≡ plan_step_mean s (frame_of slots focus addresses) xs trees
+
+-- and leaves the trees
+abbrev pub StepOutside : ℕ → PlanStep → Type 0
+StepOutside outer s =
+    StepReadsOutside outer s × ((frame : Frame) (xs : List Item) (trees : List Tree) →
+    (given : Judged (List Item)) × (plan_step_mean s frame xs trees ≡ (given, trees)))
 
 -- it reads none of them, or starts from this one
 abbrev pub Carries : ℕ → Option ℕ → Plan → Type 0

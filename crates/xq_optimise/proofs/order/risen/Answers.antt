@@ -1,6 +1,6 @@
 use Rattle.std.proofs.Common.{refl, sym, ap, ◌∙◌, subst, length}
 use Rattle.std.proofs.lemmas.Result.{IfOk-weaker}
-use Rattle.xq_optimise.proofs.Rising.{none_off, one_off, same_rest, test_risen, risen_long, all_unmoved}
+use Rattle.xq_optimise.proofs.Rising.{none_off, one_off, same_rest, test_risen, risen_long, taken_back}
 use Rattle.xq_optimise.proofs.order.risen.Goals as goal
 
 pub loop-next-init : goal.loop-next-init
@@ -16,22 +16,23 @@ returns-then-is_rising-clause-same c =
 pub returns-then-is_rising-clause-long : goal.returns-then-is_rising-clause-long
 returns-then-is_rising-clause-long c =
     IfOk-weaker c.with_first.result _ _
-    (λ after h. risen_long c.args.known.now c.args.left.items c.loop-next.left.items c.pop.new.self.items c.loop-next.passed.items after.items c.in-Some.next
+    (λ after h. risen_long c.args.known.now c.args.left.items c.loop-next.left.items c.pop.new.self.items c.loop-next.passed.items after.items c.in-Some.next c.in-Some.next
     c.loop-next.invariant c.in-Some.ensures.items h) c.with_first.ensures
 
 pub returns-then-not-may_pass-clause-same : goal.returns-then-not-may_pass-clause-same
 returns-then-not-may_pass-clause-same c =
-    IfOk-weaker c.unmoved.result _ _
-    (λ after h start. same_rest start c.args.known.now c.args.left.items after.items
-    (all_unmoved c.args.known.now c.args.left.items c.loop-next.left.items c.pop.new.self.items c.loop-next.passed.items after.items c.in-Some.next
-    c.loop-next.invariant c.in-Some.ensures.items h)) c.unmoved.ensures
+    IfOk-weaker c.with_written.result _ _
+    (λ after h. (taken_back c.args.known.now c.args.left.items c.loop-next.left.items c.pop.new.self.items c.loop-next.passed.items after.items c.in-Some.next
+    c.loop-next.invariant c.in-Some.ensures.items h).0) c.with_written.ensures
 
 pub returns-then-not-may_pass-clause-long : goal.returns-then-not-may_pass-clause-long
 returns-then-not-may_pass-clause-long c =
-    IfOk-weaker c.unmoved.result _ _
-    (λ after h. ap length
-    (all_unmoved c.args.known.now c.args.left.items c.loop-next.left.items c.pop.new.self.items c.loop-next.passed.items after.items c.in-Some.next
-    c.loop-next.invariant c.in-Some.ensures.items h)) c.unmoved.ensures
+    IfOk-weaker c.with_written.result _ _
+    (λ after h. (taken_back c.args.known.now c.args.left.items c.loop-next.left.items c.pop.new.self.items c.loop-next.passed.items after.items c.in-Some.next
+    c.loop-next.invariant c.in-Some.ensures.items h).1) c.with_written.ensures
+
+pub with_written-requires : goal.with_written-requires
+with_written-requires c = c.loop-next.invariant.each
 
 pub loop-next-preserved : goal.loop-next-preserved
 loop-next-preserved c =

@@ -1,10 +1,10 @@
 use Rattle.std.proofs.Common.{◌+◌, ◌*◌, take}
 use Rattle.std.specs.List.{AllByRecursion}
-use Rattle.xq_optimise.specs.private.Joins.{ReadsOutside, OperandOutside, StepOutside}
+use Rattle.xq_optimise.specs.private.Joins.{IsOutside, OperandOutside, StepOutside}
 use Rattle.xq_optimise.proofs.outside.+outside.Given as goal
 
 abbrev pub invariant-all_read_outside-loop-part : goal.invariant-all_read_outside-loop-part
-invariant-all_read_outside-loop-part l = AllByRecursion (ReadsOutside l.outer) (take l.part-index l.parts)
+invariant-all_read_outside-loop-part l = AllByRecursion (IsOutside l.outer) (take l.part-index l.parts)
 
 abbrev pub invariant-operands_read_outside-loop-part : goal.invariant-operands_read_outside-loop-part
 invariant-operands_read_outside-loop-part l = AllByRecursion (OperandOutside l.outer) (take l.part-index l.operands)

@@ -1,23 +1,28 @@
 use Rattle.std.proofs.Common.{◌≡◌, ◌<◌, ◌+◌, ◌*◌, ◌++◌, List, ◌∷◌, [], map, length, take, sym, ap, ◌∙◌, subst, refl, arith, rules}
+use Rattle.xq_meaning.specs.declared.plans.Plan.{Plan}
 use Rattle.xq_meaning.specs.declared.plans.Plan.TheVariants as plan
+use Rattle.xq_meaning.specs.declared.plans.PlanClause.{PlanClause}
 use Rattle.xq_meaning.specs.declared.plans.PlanClause.TheVariants as clause
 use Rattle.xq_meaning.specs.declared.plans.PlanStep.TheVariants as step
 use Rattle.xq_meaning.specs.declared.plans.PlanClause.{size-PlanClause}
 use denote.Param.Weighed.{most}
-use Rattle.std.proofs.lemmas.Result.{IfOk-weaker}
+use Rattle.std.proofs.lemmas.Result.{IfOk-weaker, on_ok_weaker}
+use Rattle.xq_optimise.specs.declared.held.Held.{Held}
 use Rattle.xq_optimise.specs.Same.{GivesSame}
 use Rattle.xq_optimise.specs.Sure.{SamePredicates}
 use Rattle.xq_optimise.specs.private.Parts.{AreAll, SameOperand, SameCall, SameKey, SameStep, SameClause, SameClauses, SameRanges, IsHeld, Extends, AddsTests}
 use Rattle.xq_optimise.proofs.Forms as forms
 use Rattle.xq_optimise.proofs.Forms.{gives_at, known_at, all_known_at, itself, step_itself, each_gives}
 use Rattle.xq_optimise.proofs.Flwor.{flwor_gives}
-use Rattle.xq_optimise.specs.private.Joins.{SameList}
-use Rattle.xq_optimise.specs.private.Order.{SameTurns}
-use Rattle.xq_optimise.proofs.Rising.{flwor_sorted}
+use Rattle.xq_optimise.specs.private.FlworParts.{StandsForFlwor, AreSteady}
+use Rattle.xq_optimise.specs.private.Joins.{LeavesTrees}
+use Rattle.xq_optimise.proofs.Conditionals.{flwor_itself, flwor_stands}
 use Rattle.xq_optimise.proofs.Splitting.{step_same_on}
 use Rattle.xq_optimise.proofs.Ranges.{quantified_gives, held_of_same}
-use Rattle.xq_optimise.proofs.JoinLaws.{turns_then, join_adds}
-use Rattle.xq_optimise.proofs.Loops.{left_none, left_next, left_done, left_size, turned_size, no_ranges, range_next, ranges_done, no_clauses, clause_added, clauses_done, for_adds, let_adds, tests_add, order_adds, count_adds, group_adds, refused_adds, adds_at, extends_bound, extends_itself, extends_more, scope_left, ranges_left}
+use Rattle.xq_optimise.proofs.JoinLaws.{join_adds}
+use Rattle.xq_optimise.proofs.Loops.{left_none, left_next, left_done, left_size, turned_size, no_ranges, range_next, ranges_done, no_clauses, clause_added, clauses_done, for_adds, let_adds, tests_add, order_adds, count_adds, group_adds, refused_adds, adds_at, extends_bound, extends_itself, extends_more, scope_kept, ranges_left}
+use Rattle.xq_optimise.proofs.Elements.{on_ok}
+use Rattle.xq_optimise.proofs.NestedReturns.{returns_alike, nested_stands}
 use Rattle.xq_optimise.proofs.walk.+walk.Goals as goal
 
 pub expression-returns-in_ok-expressions-in-Sequence-clause-same : goal.expression-returns-in_ok-expressions-in-Sequence-clause-same
@@ -129,14 +134,24 @@ expression-returns-in_ok-boxed-in-Unnamed-clause-same t c =
 
 pub expression-returns-in_ok-part-in-Quantified-clause-same : goal.expression-returns-in_ok-part-in-Quantified-clause-same
 expression-returns-in_ok-part-in-Quantified-clause-same t c =
-    gives_at c.args.known.now.items c.args.plan (plan.Quantified c.in-Quantified.quantifier c.in-Quantified.list c.in-Quantified.part) (plan.Quantified c.in-Quantified.quantifier c.in_ok-list-in-Quantified.list c.in_ok-part-in-Quantified.part) c.in-Quantified.is
-    (quantified_gives c.args.known.now.items c.ranges-in-Quantified.new.known.items c.in-Quantified.quantifier c.in-Quantified.list c.in_ok-list-in-Quantified.list c.in-Quantified.part c.in_ok-part-in-Quantified.part
+    let known = c.args.known.now.items in
+    let old = plan.Quantified c.in-Quantified.quantifier c.in-Quantified.list c.in-Quantified.part in
+    let new = plan.Quantified c.in-Quantified.quantifier c.in_ok-list-in-Quantified.list c.in_ok-part-in-Quantified.part in
+    let kept = ranges_left c.len-outer.result known c.ranges-in-Quantified.new.known.items c.boxed-in-Quantified.new.known.items c.truncate.new.self.items c.in-Quantified.list c.in_ok-list-in-Quantified.list
+    (c.len-outer.ensures ∙ c.args.known.now.ok.0) c.in_ok-list-in-Quantified.ensures.same c.in_ok-part-in-Quantified.ensures.kept c.truncate.ensures.items in
+    IfOk-weaker c.quantified.result _ _
+    (λ found h. gives_at known c.args.plan old found c.in-Quantified.is
+    (forms.then_gives known old new found
+    (quantified_gives known c.ranges-in-Quantified.new.known.items c.in-Quantified.quantifier c.in-Quantified.list c.in_ok-list-in-Quantified.list c.in-Quantified.part c.in_ok-part-in-Quantified.part
     c.in_ok-list-in-Quantified.ensures.same c.in_ok-part-in-Quantified.ensures.same)
+    (subst (λ k. GivesSame k new found) (c.deref-in-Quantified.ensures.value ∙ kept) h)))
+    c.quantified.ensures
 
 pub expression-returns-in_ok-part-in-Quantified-clause-kept : goal.expression-returns-in_ok-part-in-Quantified-clause-kept
 expression-returns-in_ok-part-in-Quantified-clause-kept t c =
-    ranges_left c.len-outer.result c.args.known.now.items c.ranges-in-Quantified.new.known.items c.boxed-in-Quantified.new.known.items c.truncate.new.self.items c.in-Quantified.list c.in_ok-list-in-Quantified.list
-    (c.len-outer.ensures ∙ c.args.known.now.ok.0) c.in_ok-list-in-Quantified.ensures.same c.in_ok-part-in-Quantified.ensures.kept c.truncate.ensures.items
+    on_ok c.quantified.result
+    (ranges_left c.len-outer.result c.args.known.now.items c.ranges-in-Quantified.new.known.items c.boxed-in-Quantified.new.known.items c.truncate.new.self.items c.in-Quantified.list c.in_ok-list-in-Quantified.list
+    (c.len-outer.ensures ∙ c.args.known.now.ok.0) c.in_ok-list-in-Quantified.ensures.same c.in_ok-part-in-Quantified.ensures.kept c.truncate.ensures.items)
 
 -- # Loops
 
@@ -176,25 +191,66 @@ ranges-loop-range-preserved t c =
 pub flwor-returns-clause-same : goal.flwor-returns-clause-same
 flwor-returns-clause-same t c =
     let known = c.args.known.now.items in
+    let last = c.clauses.new.known.items in
     let list = c.in_ok-list.list in
-    let part = c.in_ok-part.part in
-    let sorted = c.in_ok-sorted.sorted in
-    let joined = c.in_ok-joined.joined in
-    let kept = scope_left c.len-outer.result known c.clauses.new.known.items c.boxed.new.known.items c.truncate.new.self.items (c.len-outer.ensures ∙ c.args.known.now.ok.0)
-    c.in_ok-list.ensures.outer.outer c.in_ok-part.ensures.kept c.truncate.ensures.items in
-    forms.then_gives known (plan.Flwor c.args.list c.args.part) (plan.Flwor list part) (plan.Flwor joined part)
-    (flwor_gives known c.clauses.new.known.items c.args.list list c.args.part part
-    (subst (λ n. SameClauses n known c.args.list list c.clauses.new.known.items) (c.len-outer.ensures ∙ c.args.known.now.ok.0) c.in_ok-list.ensures.same)
-    c.in_ok-part.ensures.same)
-    (flwor_sorted known list joined part (turns_then (length known) known list sorted joined
-    (subst (λ k. SameTurns (length k) k list sorted) kept c.in_ok-sorted.ensures.same)
-    (subst (λ n. SameList n sorted joined) (c.len-outer.ensures ∙ c.args.known.now.ok.0) c.in_ok-joined.ensures)))
+    let part = c.args.part in
+    let whole = c.in_ok-whole.whole in
+    let start = c.len-outer.ensures ∙ c.args.known.now.ok.0 in
+    let follow = subst (λ n. SameClauses n known c.args.list list last) start c.in_ok-list.ensures.same in
+    let kept = scope_kept c.len-outer.result known last c.returned.new.known.items c.truncate.new.self.items start
+    c.in_ok-list.ensures.outer.outer c.in_ok-whole.ensures.outer.outer c.truncate.ensures.items in
+    IfOk-weaker c.joined.result _ _
+    (λ found h. forms.then_gives known (plan.Flwor c.args.list part) (plan.Flwor list part) found
+    (flwor_gives known last c.args.list list part part follow (λ slots focus addresses trees fits. refl))
+    (forms.then_gives known (plan.Flwor list part) whole found
+    (flwor_stands known last c.args.list list part whole follow
+    (subst (λ n. StandsForFlwor n last list part whole) start c.in_ok-whole.ensures.stands))
+    (subst (λ k. GivesSame k whole found) kept h)))
+    c.joined.ensures.same
 
 pub flwor-returns-clause-kept : goal.flwor-returns-clause-kept
 flwor-returns-clause-kept t c =
-    c.in_ok-sorted.ensures.kept
-    ∙ scope_left c.len-outer.result c.args.known.now.items c.clauses.new.known.items c.boxed.new.known.items c.truncate.new.self.items (c.len-outer.ensures ∙ c.args.known.now.ok.0)
-    c.in_ok-list.ensures.outer.outer c.in_ok-part.ensures.kept c.truncate.ensures.items
+    on_ok_weaker c.joined.result
+    (λ h. h ∙ scope_kept c.len-outer.result c.args.known.now.items c.clauses.new.known.items c.returned.new.known.items c.truncate.new.self.items (c.len-outer.ensures ∙ c.args.known.now.ok.0)
+    c.in_ok-list.ensures.outer.outer c.in_ok-whole.ensures.outer.outer c.truncate.ensures.items)
+    c.joined.ensures.kept
+
+pub returned-returns-in_ok-part-in_default : goal.returned-returns-in_ok-part-in_default
+returned-returns-in_ok-part-in_default t c =
+    let known = c.args.known.now.items in
+    let list = c.args.list in
+    let other = c.into_inner.result in
+    let part = c.in_ok-part-in_default.part in
+    let is : c.args.part ≡ other = sym c.into_inner.ensures in
+    record {
+      stands =
+          IfOk-weaker c.with_test_before.result _ _
+          (λ found h. subst (λ (p : Plan). StandsForFlwor c.args.outer known list p found) (sym is)
+          (returns_alike c.args.outer known list other part found c.in_ok-part-in_default.ensures.same
+          (subst (λ (k : List Held). StandsForFlwor c.args.outer k list part found) (c.deref.ensures.value ∙ c.in_ok-part-in_default.ensures.kept) (h c.args.outer))))
+          c.with_test_before.ensures;
+      outer =
+          on_ok c.with_test_before.result
+          (subst (Extends c.args.outer known) (sym c.in_ok-part-in_default.ensures.kept) (extends_itself c.args.outer known c.requires));
+    }
+
+pub nested-returns-then-not-branch-clause-stands : goal.nested-returns-then-not-branch-clause-stands
+nested-returns-then-not-branch-clause-stands t c =
+    let known = c.args.known.now.items in
+    let part = c.in_ok-part.part in
+    returns_alike c.args.outer known c.args.list (plan.Flwor c.args.more c.args.last) part _ c.in_ok-part.ensures.same
+    (flwor_itself c.args.outer known c.args.list part c.in_ok-new.field-0 _ (sym c.in_ok-new.ensures) (ap (λ l. plan.Flwor l c.in_ok-new.field-0) c.list.view_is))
+
+pub nested-returns-clause-stands : goal.nested-returns-clause-stands
+nested-returns-clause-stands t c =
+    let known = c.args.known.now.items in
+    let told = c.in_ok-goes_on.ensures c.if-not-branch.false in
+    let steady = subst (λ (k : List Held). AreSteady c.args.outer k c.args.more) c.deref.ensures.value
+    (subst (λ (l : List PlanClause). AreSteady c.args.outer c.deref.result.now l) c.as_slice.ensures told.0) in
+    IfOk-weaker c.returned.result _ _
+    (λ found h. nested_stands c.args.outer known c.clauses.new.known.items c.args.list c.args.more c.in_ok-more.more c.append.new.self c.args.last found
+    steady (subst LeavesTrees c.get.ensures told.1) c.in_ok-more.ensures.same c.in_ok-append.ensures h)
+    c.returned.ensures.stands
 
 pub clauses-loop-next-preserved : goal.clauses-loop-next-preserved
 clauses-loop-next-preserved t c =

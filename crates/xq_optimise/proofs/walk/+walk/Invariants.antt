@@ -84,6 +84,12 @@ decreases-ranges a = 4 * goal.size-ranges a + 1
 abbrev pub decreases-flwor : goal.decreases-flwor
 decreases-flwor a = 4 * max (most size-PlanClause a.list) (size-Plan a.part) + 2
 
+abbrev pub decreases-returned : goal.decreases-returned
+decreases-returned a = 4 * size-Plan a.part + 1
+
+abbrev pub decreases-nested : goal.decreases-nested
+decreases-nested a = 4 * max (most size-PlanClause a.more) (size-Plan a.last) + 3
+
 abbrev pub decreases-clauses : goal.decreases-clauses
 decreases-clauses a = 4 * most size-PlanClause a.list + 1
 

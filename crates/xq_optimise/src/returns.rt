@@ -1,0 +1,68 @@
+//! What a FLWOR returns: a conditional whose other branch is `()` is a `where` (XQuery 3.1, sections
+//! 3.12.5 and 3.14).
+ghost use Rattle.std.specs.Prelude.{◌≡◌, [], ℕ, true, IfOk};
+ghost use Rattle.xq_meaning.specs.declared.plans.Plan.TheVariants as plan_of;
+ghost use Rattle.xq_optimise.specs.private.FlworParts.{MayStand, StandsForFlwor};
+
+use crate::held::Held;
+use crate::outside::reads_outside;
+use crate::sure::is_test;
+use crate::wheres::pushed;
+use sqlite_items::{Boxed, Items};
+use std::alloc::{AllocError, Global};
+use xq_meaning::{Plan, PlanClause};
+
+/// Whether the part is `()`.
+fn is_nothing(plan: &Plan) -> bool
+    ensures { result ≡ true → plan.now ≡ plan_of.Sequence [] }
+{
+    match plan {
+        Plan::Sequence(parts) => parts.is_empty(),
+        _ => false,
+    }
+}
+
+/// Whether the test of a conditional with these branches may as well be a `where`.
+fn may_stand(known: &[Held], test: &Plan, positive: &Plan, negative: &Plan) -> bool
+    ensures { result ≡ true → MayStand known.now test.now positive.now negative.now }
+{
+    is_test(known, test) && reads_outside(known.len(), positive) && is_nothing(negative)
+}
+
+/// A FLWOR that returns a conditional, or one that gives the same with the test as a `where`.
+fn conditional(
+    alloc: Global,
+    known: &[Held],
+    list: Items<PlanClause>,
+    test: Boxed<Plan>,
+    positive: Boxed<Plan>,
+    negative: Boxed<Plan>,
+) -> Result<Plan, AllocError>
+    ensures { IfOk result (λ found. (outer : ℕ)
+        → StandsForFlwor outer known.now list (plan_of.If test positive negative) found) }
+{
+    if !may_stand(known, test.get(), positive.get(), negative.get()) {
+        let part = Plan::If(test, positive, negative);
+        return Ok(Plan::Flwor(list, Boxed::new(alloc, part)?));
+    }
+    let list = pushed(list, PlanClause::Where(test.into_inner()))?;
+    Ok(Plan::Flwor(list, positive))
+}
+
+/// A FLWOR with these clauses that returns this part, or one that gives the same.
+pub fn with_test_before(
+    alloc: Global,
+    known: &[Held],
+    list: Items<PlanClause>,
+    part: Plan,
+) -> Result<Plan, AllocError>
+    ensures { IfOk result (λ found. (outer : ℕ)
+        → StandsForFlwor outer known.now list part found) }
+{
+    match part {
+        Plan::If(test, positive, negative) => {
+            conditional(alloc, known, list, test, positive, negative)
+        }
+        other => Ok(Plan::Flwor(list, Boxed::new(alloc, other)?)),
+    }
+}
