@@ -64,8 +64,8 @@ QUERIES = (
     'for $x in {path} where some $r in $x/{name} satisfies $r < "x" return count($x/{other})',
     "for $x in {path} return for $y in {path} where $y/@id = $x/@id return string($y)",
     "for $x in {path} return for $y in $x/{name}, $z at $n in {path} where $z/@id = $y return $n",
-    "for $x in {path} order by string($x) return for $y in {path} let $r := $y/@id where $r = $x/@id"
-    " return if ($y/{name}) then concat($r, $x/@id) else ()",
+    "for $x in {path} order by string($x) return for $y in {path} let $r := $y/@id"
+    " where $r = $x/@id return if ($y/{name}) then concat($r, $x/@id) else ()",
     "for $x in {path} return for $y in {path}[{number}] return for $z in $y/{name} return $x/@id",
     "for $x in {path} let $y := {path} where $x/@id = $y/@id and $x/{name} return count($y)",
     'for $x in {path} let $k := $x/@id return count({path}/{other}[@id = $k])',
