@@ -143,6 +143,35 @@ fn has_last(left: usize, right: usize, slots: usize) -> bool {
     }
 }
 
+/// The slot from which a key starts.
+fn key_slot(key: &Plan) -> Option<usize> {
+    let Plan::Call(function, parts) = key else {
+        return start_slot(key);
+    };
+    let [part] = parts.as_slice() else {
+        return None;
+    };
+    match function {
+        Function::String => start_slot(part),
+        Function::Data => start_slot(part),
+        _ => None,
+    }
+}
+
+/// Whether the test compares a key in the last of so many slots with a key before it for equality.
+pub fn compares_last(test: &Plan, slots: usize) -> bool {
+    let Some(equal) = as_equal(test) else {
+        return false;
+    };
+    match key_slot(equal.left) {
+        Some(left) => match key_slot(equal.right) {
+            Some(right) => has_last(left, right, slots),
+            None => false,
+        },
+        None => false,
+    }
+}
+
 /// The keys that a test compares for equality, one of which is in the last of so many slots.
 fn keys_of(
     alloc: Global,
@@ -209,7 +238,7 @@ fn start_slot(plan: &Plan) -> Option<usize>
 
 /// Whether a range may give nodes or texts, of which a join makes a table. (Numbers are compared
 /// faster by the test.)
-fn may_give_texts(range: &Plan) -> bool {
+pub fn may_give_texts(range: &Plan) -> bool {
     match range {
         Plan::Slot(_)
         | Plan::Path(_, _)
