@@ -240,7 +240,7 @@ class Backward(NodesTest):
         first.line = 2
         reads = node.node.reads
         self.assertEqual(reads.floor, 1)
-        first.promised = first.line
+        reads.note_given(first.replica)
         self.assertEqual(reads.floor, 2)
         first.halted = "planted"
         self.assertEqual(reads.floor, 1, "what a halted server did not carry out does not count")
