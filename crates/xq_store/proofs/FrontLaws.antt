@@ -1,9 +1,9 @@
 -- The first rows of a tree: what they lend, and what is read on.
-use Rattle.std.proofs.Common.{◌≡◌, ◌+◌, ◌-◌, ◌≤◌, ◌<◌, ℕ, zero, suc, List, [], ◌∷◌, ◌++◌, length, map, take, drop, min, inl, inr, append_assoc, get_or, set, length-append, length-drop, Result, Ok, Err, OnOk, refl, sym, ap, subst, ◌∙◌, arith}
+use Rattle.std.proofs.Common.{◌≡◌, ◌+◌, ◌-◌, ◌≤◌, ◌<◌, ℕ, zero, suc, List, [], ◌∷◌, ◌++◌, length, map, take, drop, min, inl, inr, append_assoc, get_or, set, length-append, length-drop, Result, Ok, Err, OnOk, OnErr, refl, sym, ap, subst, ◌∙◌, arith}
 use Rattle.std.specs.Global.{Vec}
 use Rattle.std.specs.HashMap.{get_by_text}
 use Rattle.std.specs.List.{enumerate_from, AllByRecursion}
-use Rattle.std.specs.Prelude.{slice_get, Option, Some, IfSome}
+use Rattle.std.specs.Prelude.{slice_get, slice_range, Option, Some, IfSome}
 use Rattle.std.proofs.lemmas.List.FromFn.{length-enumerate_from}
 use Rattle.std.proofs.lemmas.List.{map-append, take-append-drop, take-append-le, take-take}
 use Rattle.xq_trees.specs.Forest.{count}
@@ -11,12 +11,14 @@ use Rattle.xq_trees.specs.Tree.{Tree, nodes}
 use Rattle.xq_trees.specs.Rows.{Row, rows, row_at, measured, placed, placed_rows, row_of}
 use Rattle.xq_trees.specs.Nesting.{count-measured}
 use Rattle.xq_trees.specs.declared.NodeRow.{NodeRow}
+use Rattle.xq_packed.specs.Changes.{moved}
 use Rattle.xq_packed.specs.Packed.{Packed}
 use Rattle.xq_packed.specs.PackedTrees.{Packs}
 use Rattle.xq_sources.specs.Lenders.{IsRun}
 use Rattle.xq_sources.specs.Names.{named}
 use Rattle.xq_sources.specs.Sources.{rows_between, tree_at}
 use Rattle.xq_sources.proofs.Intervals.{between-places}
+use Rattle.xq_sources.proofs.Planting.{stays}
 use Rattle.xq_tables.proofs.Loads.{length-labels}
 use Rattle.xq_store.proofs.ViewLaws.{one_placed}
 use Rattle.xq_store.specs.declared.shelves.CachedDocument.{CachedDocument}
@@ -248,6 +250,20 @@ packed_some t rs found count front =
     ap (λ xs. rs ++ map row_of xs) (sym (take-append-drop count found)) ∙ ap (λ xs. rs ++ xs) (map-append row_of (take count found) (drop count found)) ∙ sym (append_assoc rs some others) in
     first-of-front t (enumerate_from 0 (rs ++ some)) (enumerate_from (0 + length (rs ++ some)) others)
     (subst (λ xs. IsFront t xs) (ap (enumerate_from 0) parts ∙ numbered-both 0 (rs ++ some) others) front)
+
+-- some of the first rows of a tree are its first
+pub fewer_first : (t : Tree) (k : ℕ) (ps : List (ℕ × Row)) → IsFront t ps → IsFront t (take k ps)
+fewer_first t k ps front = first-of-front t (take k ps) (drop k ps) (subst (IsFront t) (sym (take-append-drop k ps)) front)
+
+-- and so are a copy of them, and none
+pub copied_first : {E : Type 0} (t : Tree) (old rs new : List Row) (k : ℕ) (r : Result (Unit {0}) E) → old ≡ [] → IsFront t (enumerate_from 0 rs) → OnOk r (new ≡ old ++ map (moved 0 0) (slice_range rs 0 k)) → OnErr r (new ≡ old) → IsFront t (enumerate_from 0 new)
+copied_first t old rs new k (Ok done) none front copied kept =
+    let some = slice_range rs 0 k in
+    let whole : k - 0 ≡ k = omega arith in
+    let first : some ≡ take k rs = ap (λ n. take n rs) whole in
+    let is : new ≡ take k rs = copied ∙ ap (λ l. l ++ map (moved 0 0) some) none ∙ stays some ∙ first in
+    subst (λ l. IsFront t (enumerate_from 0 l)) (sym is) (subst (IsFront t) (first-numbered k 0 rs) (fewer_first t k (enumerate_from 0 rs) front))
+copied_first t old rs new k (Err want) none front copied kept = subst (λ l. IsFront t (enumerate_from 0 l)) (sym (kept ∙ none)) (first_kept t 0)
 
 -- # All rows of a tree
 

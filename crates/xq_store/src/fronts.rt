@@ -17,7 +17,7 @@ ghost use Rattle.xq_sources.specs.Parents.{AreParents, IsParentRow};
 ghost use Rattle.xq_sources.specs.Sources.{tree_at};
 
 use crate::room::{is_chosen, make_room};
-use crate::shelves::{Cache, CachedDocument, address_at, all_of, are_whole};
+use crate::shelves::{Cache, CachedDocument, address_at, all_of, are_whole, sought_in};
 use crate::stores::Store;
 use sqlite::Alter;
 use std::alloc::Global;
@@ -25,8 +25,11 @@ use xq_atoms::Want;
 use xq_packed::PackedRows;
 use xq_sources::{LentRows, Meter, no_parents};
 
-/// How many rows are read at a time.
-const PART: u32 = 1_024;
+/// How many rows are read at a time, beside the first of them.
+pub(crate) const PART: u32 = 1_023;
+
+/// How many are read in a pass over roots: by so many it is told whether a name is looked for.
+const FEW: u32 = 65;
 
 /// Rows of a tree from `low` to `high`.
 #[derive(Clone, Copy)]
@@ -43,6 +46,18 @@ pub(crate) const NO_ROWS: RowRange = RowRange {
     high: 0,
 };
 
+/// How many rows are read at a time where the row of a node is wanted after a run: few where roots
+/// of trees beside one another are asked for, one after another. So many rows of all of them may be
+/// forgotten before more of one is wanted.
+pub(crate) fn part_after(run: RowRange, tree: usize, node: u32) -> u32 {
+    let is_root = run.low == 0 && run.high == 0;
+    if is_root && node == 0 && run.tree.saturating_add(1) == tree {
+        FEW
+    } else {
+        PART
+    }
+}
+
 /// Reads the document of an address on, a part at a time, until its rows reach a place or are all
 /// there.
 fn read_rows<S: Alter>(
@@ -51,6 +66,7 @@ fn read_rows<S: Alter>(
     address: &str,
     rows: &mut PackedRows,
     place: u32,
+    part: u32,
 ) -> Result<(), Want>
     ensures front { IsClean S.Store store.new → (m : Map) → StandsFor S.Store store.old m
         → (t : Tree) → get m address.now ≡ Some t → IsFront t (enumerate_from 0 rows.old.rows)
@@ -70,7 +86,7 @@ fn read_rows<S: Alter>(
             return Ok(());
         }
         let low = rows.len() as u32;
-        let high = low.saturating_add(PART - 1);
+        let high = low.saturating_add(part);
         let found = store.read_between(alloc, address, low, high)?;
         if found.is_empty() {
             return Ok(());
@@ -80,14 +96,17 @@ fn read_rows<S: Alter>(
     Ok(())
 }
 
-/// Reads the rows that are kept of a document on in this way. Where memory is short the guide to its
-/// parents stays behind: the rows are read without it.
+/// Reads the rows that are kept of a document on in this way. Where memory is short the guide to
+/// its parents stays behind: the rows are read without it. Where all rows are there now, the name
+/// that was sought is looked for.
 fn read_front<S: Alter>(
     alloc: Global,
     store: &mut Store<S>,
     address: &str,
     front: &mut CachedDocument,
     place: u32,
+    part: u32,
+    sought: Option<&str>,
 ) -> Result<(), Want>
     ensures front { IsClean S.Store store.new → (m : Map) → StandsFor S.Store store.old m
         → (t : Tree) → get m address.now ≡ Some t → IsFrontOf t front.old
@@ -102,8 +121,9 @@ fn read_front<S: Alter>(
     ensures was_clean { IsClean S.Store store.new → IsClean S.Store store.old }
     ensures alone { LeavesAlone S.Store store.old store.new }
 {
-    let read = read_rows(alloc, store, address, &mut front.rows, place);
+    let read = read_rows(alloc, store, address, &mut front.rows, place, part);
     let _ = front.guide.read_on(&all_of(&front.rows));
+    front.find_sought(alloc, sought);
     read
 }
 
@@ -229,8 +249,8 @@ pub(crate) fn kept_run(fronts: &[CachedDocument], run: RowRange) -> LentRows<'_>
     }
 }
 
-/// Whether the rows that are kept of a tree reach a place. They are wanted now, and again where they
-/// were wanted before.
+/// Whether the rows that are kept of a tree reach a place. They are wanted now, and again where
+/// they were wanted before.
 fn has_reached(shelf: &mut Cache, tree: usize, place: u32) -> bool
     ensures reached { IsTrue result → (trees : List Tree) → AreFronts trees shelf.old.fronts.items
         → HasReached trees shelf.new.fronts.items tree place }
@@ -246,14 +266,15 @@ fn has_reached(shelf: &mut Cache, tree: usize, place: u32) -> bool
     front.rows.len() > place as usize
 }
 
-/// Reads a document on until its rows reach a place, or are all there. Where that is refused, the
-/// store is to keep nothing.
+/// Reads a document on, a part at a time, until its rows reach a place, or are all there. Where
+/// that is refused, the store is to keep nothing.
 pub(crate) fn read_on<S: Alter>(
     alloc: Global,
     store: &mut Store<S>,
     shelf: &mut Cache,
     tree: usize,
     place: u32,
+    part: u32,
 ) -> Result<(), Want>
     ensures addresses { shelf.new.addresses ≡ shelf.old.addresses }
     ensures fronts { IsClean S.Store store.new → (m : Map) → StandsFor S.Store store.old m
@@ -284,7 +305,8 @@ pub(crate) fn read_on<S: Alter>(
     shelf.clock = shelf.clock.saturating_add(1);
     front.read_at(shelf.clock, is_chosen(shelf.clock));
     let before = front.bytes();
-    let read = read_front(alloc, store, address, front, place);
+    let sought = sought_in(&shelf.sought, tree);
+    let read = read_front(alloc, store, address, front, place, part, sought);
     let more = front.bytes().saturating_sub(before);
     shelf.kept = shelf.kept.saturating_add(more);
     shelf.stays &= read.is_ok();

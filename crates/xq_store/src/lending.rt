@@ -1,10 +1,10 @@
 //! What a view lends: rows that are kept in memory, read on where they are wanted.
 
 use crate::fronts::{
-    NO_ROWS, RowRange, find_in_front, find_values_in, kept_run, named_in, parent_of, parents_in,
-    read_on, valued_in,
+    NO_ROWS, PART, RowRange, find_in_front, find_values_in, kept_run, named_in, parent_of,
+    parents_in, part_after, read_on, valued_in,
 };
-use crate::shelves::cached_rows;
+use crate::shelves::{cached_rows, note_sought};
 use crate::views::{Origin, View};
 use sqlite::Alter;
 use std::alloc::Global;
@@ -16,7 +16,7 @@ impl<S: Alter, O: Origin> RowLender for View<S, O> {
 
     fn fetch(&mut self, alloc: Global, tree: usize, low: u32, high: u32) -> Result<(), Want> {
         self.run = NO_ROWS;
-        read_on(alloc, &mut self.store, &mut self.shelf, tree, low)?;
+        read_on(alloc, &mut self.store, &mut self.shelf, tree, low, PART)?;
         self.run = RowRange { tree, low, high };
         let count = kept_run(&self.shelf.fronts, self.run).len();
         self.meter = self.meter.with_rows(count);
@@ -24,8 +24,9 @@ impl<S: Alter, O: Origin> RowLender for View<S, O> {
     }
 
     fn fetch_row(&mut self, alloc: Global, tree: usize, node: u32) -> Result<(), Want> {
+        let part = part_after(self.run, tree, node);
         self.run = NO_ROWS;
-        read_on(alloc, &mut self.store, &mut self.shelf, tree, node)?;
+        read_on(alloc, &mut self.store, &mut self.shelf, tree, node, part)?;
         if node as usize >= cached_rows(&self.shelf.fronts, tree).len() {
             return Err(Want::Store);
         }
@@ -56,6 +57,8 @@ impl<S: Alter, O: Origin> RowLender for View<S, O> {
         tree: usize,
         name: &str,
     ) -> Result<Option<Vec<u32>>, Want> {
+        let sought = &mut self.shelf.sought;
+        note_sought(alloc, &self.shelf.fronts, sought, tree, name);
         find_in_front(alloc, &mut self.shelf.fronts, &mut self.meter, tree, name)
     }
 

@@ -19,22 +19,55 @@ use xq_packed::{PackedRows, PackedTree};
 use xq_sources::{Addresses, Guide, LentRows, Meter, NameIndex, Values, find_named, find_values};
 use xq_tables::{FoundDocument, kept_bytes};
 
-/// What is kept of a document: its first rows, and what was found among them.
+/// How many rows stay of a document as a stub.
+const STUB_ROWS: usize = 1;
+
+/// How many bytes these take, by the same count as others, with their name.
+const BYTES_OF_A_STUB: usize = 88;
+
+/// Of how many first rows of a document of many rows the places of parents stay: by these it is
+/// told whether a name is looked for.
+const GUIDED_ROWS: usize = 66;
+
+/// From how many rows below its root on a document has many.
+const MANY: u32 = 255;
+
+/// How many bytes a place takes.
+const BYTES_OF_A_PLACE: usize = 4;
+
+/// How many bytes a name takes at most beside its own and its places.
+const BYTES_OF_A_NAME: usize = 64;
+
+/// What is kept of a document: its first rows, and what was found among them. Once its rows are
+/// forgotten it is a stub: its first row, the places of names that were found, and, where it has
+/// many rows, where the parents of its first nodes lie.
 #[derive(Drop)]
 pub(crate) struct CachedDocument {
     pub rows: PackedRows,
-    /// Where parents lie among them.
+    /// Where parents lie among its first rows.
     pub guide: Guide,
     /// The places of its elements by their names, of names that were looked for while all rows were
     /// here.
     pub names: NameIndex,
+    /// How many bytes these take.
+    pub named: usize,
     /// The places of its attributes in the order of their values, of names that were looked for
     /// while all rows were here.
     pub values: Values,
-    /// When they were wanted last, by the clock of the shelf.
+    /// When it was wanted last, by the clock of the shelf.
     pub wanted: u64,
-    /// Whether they were wanted again at a later time than that at which they came.
+    /// Whether it was wanted again at a later time than that at which its rows came, or, of a stub,
+    /// than that at which these were forgotten.
     pub is_wanted_again: bool,
+}
+
+/// A part of what is kept of a document, which is forgotten at once.
+#[derive(Clone, Copy)]
+pub(crate) enum Part {
+    /// Its rows, but for the first: a stub stays.
+    Rows,
+    /// What stayed as a stub.
+    Stub,
 }
 
 /// The addresses of the documents of a store, in the order of their bytes, and at the same place
@@ -48,8 +81,29 @@ pub(crate) struct Cache {
     /// How often rows were wanted that had to be read, a document came with its rows, or a view
     /// began.
     pub clock: u64,
+    /// The name that was looked for last in a document of which not all rows were here: it is
+    /// looked for once they are.
+    pub sought: SoughtName,
     /// Whether the store may keep this when its view ends.
     pub stays: bool,
+}
+
+/// A name that is to be looked for in a tree, or none. (A `None` would give each drop of a cache two
+/// ways, and each proof of one as many cases.)
+#[derive(Drop)]
+pub(crate) struct SoughtName {
+    tree: usize,
+    name: String,
+}
+
+impl SoughtName {
+    /// No name: no tree has this number.
+    fn none(alloc: Global) -> SoughtName {
+        SoughtName {
+            tree: usize::MAX,
+            name: String::new(alloc),
+        }
+    }
 }
 
 impl CachedDocument {
@@ -61,6 +115,7 @@ impl CachedDocument {
             rows: PackedRows::new(alloc),
             guide: Guide::new(alloc),
             names: HashMap::new(alloc),
+            named: 0,
             values: HashMap::new(alloc),
             wanted: 0,
             is_wanted_again: false,
@@ -85,13 +140,14 @@ impl CachedDocument {
             rows,
             guide,
             names: HashMap::new(alloc),
+            named: 0,
             values: HashMap::new(alloc),
             wanted,
             is_wanted_again: false,
         }
     }
 
-    /// The rows are wanted at a time: again, where it is later than the time before.
+    /// It is wanted at a time: again, where it is later than the time before.
     pub fn want(&mut self, time: u64)
         ensures { (t : Tree) → IsFrontOf t self.old → IsFrontOf t self.new }
     {
@@ -99,18 +155,81 @@ impl CachedDocument {
         self.wanted = time;
     }
 
-    /// Rows are read at a time, and may count as wanted again at once.
+    /// Rows are read at a time, and may count as wanted again at once. Those of a stub come now,
+    /// however often its names were wanted.
     pub fn read_at(&mut self, time: u64, is_wanted_again: bool)
         ensures { (t : Tree) → IsFrontOf t self.old → IsFrontOf t self.new }
     {
-        self.is_wanted_again |= is_wanted_again;
+        self.is_wanted_again = is_wanted_again || self.is_wanted_again && !self.is_stub();
         self.wanted = time;
     }
 
+    /// Whether there is no row but the first.
+    pub fn is_stub(&self) -> bool {
+        self.rows.len() <= STUB_ROWS
+    }
+
     /// How many bytes are kept at most: rows with their values, and of each row the place of its
-    /// parent, and its place among those of its name.
+    /// parent, and its place among those of its name; of a stub the places that stayed.
     pub fn bytes(&self) -> usize {
-        kept_bytes(&self.rows)
+        let rows = kept_bytes(&self.rows);
+        if self.is_stub() {
+            rows.saturating_add(self.guide.places().len().saturating_mul(BYTES_OF_A_PLACE))
+                .saturating_add(self.named)
+        } else {
+            rows
+        }
+    }
+
+    /// How many bytes are free once a part of this is forgotten.
+    pub fn bytes_of(&self, part: Part) -> usize {
+        match part {
+            Part::Rows if self.is_stub() => 0,
+            Part::Rows => self.bytes().saturating_sub(self.bytes_left()),
+            Part::Stub if self.is_stub() => self.bytes(),
+            Part::Stub => 0,
+        }
+    }
+
+    /// How many bytes a stub will take.
+    fn bytes_left(&self) -> usize {
+        let guided = self.guided_rows().saturating_mul(BYTES_OF_A_PLACE);
+        self.named
+            .saturating_add(guided)
+            .saturating_add(BYTES_OF_A_STUB)
+    }
+
+    /// Of how many first rows the places of parents stay.
+    fn guided_rows(&self) -> usize {
+        match self.rows.get(0) {
+            Some(root) if root.size() >= MANY => GUIDED_ROWS,
+            _ => 0,
+        }
+    }
+
+    /// Forgets a part of this.
+    pub fn forget(&mut self, alloc: Global, part: Part)
+        ensures { (t : Tree) → IsFrontOf t self.old → IsFrontOf t self.new }
+    {
+        match part {
+            Part::Rows => self.forget_rows(alloc),
+            Part::Stub => *self = CachedDocument::new(alloc),
+        }
+    }
+
+    /// Forgets all rows but the first, and what was found among them, but for the names. Where
+    /// memory is short, the first is forgotten too.
+    fn forget_rows(&mut self, alloc: Global)
+        ensures { (t : Tree) → IsFrontOf t self.old → IsFrontOf t self.new }
+    {
+        let few = all_of(&self.rows).first(self.guided_rows());
+        let mut guide = Guide::new(alloc);
+        let _ = guide.read_on(&few);
+        let mut rows = PackedRows::new(alloc);
+        let _ = rows.append_run(&self.rows, 0, STUB_ROWS, 0, 0);
+        self.rows = rows;
+        self.guide = guide;
+        self.values = HashMap::new(alloc);
     }
 
     /// The rows, lent.
@@ -135,6 +254,7 @@ impl CachedDocument {
         ensures counts { (t : Tree) → IsFrontOf t self.old
             → meter.new ≡ after_search_lem meter.old (count (nodes t)) result }
         ensures gives { GivesNone meter.old meter.new }
+        ensures rows { self.new.rows ≡ self.old.rows }
     {
         let rows = all_of(&self.rows);
         if !are_whole(&rows) {
@@ -142,7 +262,22 @@ impl CachedDocument {
         }
         let looked = find_named(alloc, &mut self.names, &rows, name);
         *meter = after_search(*meter, rows.len(), &looked);
+        self.named = self.named.saturating_add(bytes_of_name(name, &looked));
         looked
+    }
+
+    /// Looks for the places of the elements with the name, if there is one, where these are all
+    /// rows of the document now: they were just read, so a look at each of them costs little
+    /// beside.
+    pub fn find_sought(&mut self, alloc: Global, name: Option<&str>)
+        ensures kept { (t : Tree) → IsFrontOf t self.old → IsFrontOf t self.new }
+        ensures rows { self.new.rows ≡ self.old.rows }
+    {
+        let Some(name) = name else {
+            return;
+        };
+        let mut meter = Meter::new();
+        let _ = self.find_named(alloc, &mut meter, name);
     }
 
     /// Looks for the attributes with the name, where these are all rows of the document and the
@@ -162,6 +297,18 @@ impl CachedDocument {
         *meter = meter.with_looks(twice_each(count, &looked));
         let _is_looked = looked?;
         Ok(())
+    }
+}
+
+/// How many bytes the places of a name take where they were found, with the name.
+fn bytes_of_name(name: &str, looked: &Result<Option<Vec<u32>>, Want>) -> usize {
+    match looked {
+        Ok(Some(places)) => places
+            .len()
+            .saturating_mul(BYTES_OF_A_PLACE)
+            .saturating_add(name.len())
+            .saturating_add(BYTES_OF_A_NAME),
+        _ => 0,
     }
 }
 
@@ -201,6 +348,40 @@ pub(crate) fn are_whole(rows: &LentRows<'_>) -> bool
         return false;
     };
     root.size as usize + 1 == rows.len()
+}
+
+/// Takes note that a name is to be looked for in a tree once all its rows are here: where they
+/// aren't, and the places of the name aren't kept.
+pub(crate) fn note_sought(
+    alloc: Global,
+    fronts: &[CachedDocument],
+    sought: &mut SoughtName,
+    tree: usize,
+    name: &str,
+) {
+    let Some(front) = fronts.get(tree) else {
+        return;
+    };
+    if are_whole(&front.lent()) || front.names.contains_key(name) {
+        return;
+    }
+    if sought.name.as_str() == name {
+        sought.tree = tree;
+        return;
+    }
+    *sought = match String::from_str(alloc, name) {
+        Ok(name) => SoughtName { tree, name },
+        Err(_) => SoughtName::none(alloc),
+    };
+}
+
+/// The name that is to be looked for in a tree, where one is.
+pub(crate) fn sought_in(sought: &SoughtName, tree: usize) -> Option<&str> {
+    if sought.tree == tree {
+        Some(sought.name.as_str())
+    } else {
+        None
+    }
 }
 
 /// The time by the clock of what is kept.
@@ -254,8 +435,8 @@ fn no_rows(alloc: Global, count: usize) -> Result<Vec<CachedDocument>, Want>
     Ok(fronts)
 }
 
-/// The addresses of documents that an opening found, what is kept of each of them, and how many bytes
-/// that are in all.
+/// The addresses of documents that an opening found, what is kept of each of them, and how many
+/// bytes that are in all.
 fn cached(
     alloc: Global,
     documents: Vec<FoundDocument>,
@@ -290,6 +471,7 @@ impl Cache {
             fronts: Vec::new(alloc),
             kept: 0,
             clock: 0,
+            sought: SoughtName::none(alloc),
             stays: true,
         })
     }
@@ -306,6 +488,7 @@ impl Cache {
             fronts,
             kept: 0,
             clock: 0,
+            sought: SoughtName::none(alloc),
             stays: true,
         })
     }
@@ -327,6 +510,7 @@ impl Cache {
             fronts,
             kept,
             clock: 0,
+            sought: SoughtName::none(alloc),
             stays: true,
         })
     }

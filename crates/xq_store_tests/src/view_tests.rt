@@ -33,7 +33,8 @@ const BOTH: [Step; 2] = [
 ];
 
 /// The places of a name are told once it was looked for among all rows, also where there are none:
-/// in later views too, and until another document is put. Each row is looked at once for a name.
+/// in later views too, and until another document is put. Each row is looked at once for a name. One
+/// that was looked for before all rows were there is found as the last of them come.
 const NAMES: [Step; 4] = [
     (
         &[Call::Put("b", LIBRARY, Put::Stored)],
@@ -41,8 +42,6 @@ const NAMES: [Step; 4] = [
             (0, Look::Find("book")),
             (0, Look::Told("book", None)),
             (0, Look::Read),
-            (0, Look::Told("book", None)),
-            (0, Look::Count("book", 8)),
             (0, Look::Told("book", Some(&[2, 5]))),
             (0, Look::Count("book", 0)),
             (0, Look::Told("lib", None)),
@@ -129,7 +128,8 @@ const VALUES: [Step; 4] = [
     ),
 ];
 
-/// Of the great library more is there than is read at once.
+/// Of the great library more is there than is read at once. A name that is looked for before is
+/// found as the last rows come.
 const PART: [Step; 1] = [(
     &[Call::Put("a", GREAT, Put::Stored)],
     Task::Names(&[
@@ -137,14 +137,15 @@ const PART: [Step; 1] = [(
         (0, Look::Find("lib")),
         (0, Look::Told("lib", None)),
         (0, Look::Read),
-        (0, Look::Told("lib", None)),
+        (0, Look::Told("lib", Some(&[1]))),
         (0, Look::Find("lib")),
         (0, Look::Told("lib", Some(&[1]))),
     ]),
 )];
 
-/// What is kept of a small document stays beside another of few rows and long values, and is
-/// forgotten for a longer one.
+/// What is kept of a small document stays beside another of few rows and long values. For a longer
+/// one its rows are forgotten, and with them the places of its attributes by their values; those of
+/// its elements by their names stay.
 const ROOM: [Step; 3] = [
     (
         &[Call::HandOver("a", LIBRARY, Put::Stored)],
@@ -160,12 +161,13 @@ const ROOM: [Step; 3] = [
     (
         &[Call::HandOver("b", Long(130), Put::Replaced)],
         Task::Names(&[
-            (0, Look::Told("book", None)),
-            (0, Look::Find("book")),
-            (0, Look::Told("book", None)),
-            (0, Look::Read),
-            (0, Look::Find("book")),
             (0, Look::Told("book", Some(&[2, 5]))),
+            (0, Look::FindValues("id")),
+            (0, Look::Valued("id", "1", None)),
+            (0, Look::Read),
+            (0, Look::Told("book", Some(&[2, 5]))),
+            (0, Look::FindValues("id")),
+            (0, Look::Valued("id", "1", Some(&[3]))),
         ]),
     ),
 ];
