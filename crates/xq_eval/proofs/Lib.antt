@@ -1,5 +1,6 @@
 pub mod Counted
 pub mod Loops
+pub mod GroupLaws
 pub mod JoinLaws
 pub mod NextValues
 pub mod Quantifying

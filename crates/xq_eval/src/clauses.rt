@@ -15,6 +15,7 @@ ghost use Rattle.xq_operators.specs.Views.{tuple_at, tuples_at, lists_of, order_
 ghost use Rattle.xq_eval.specs.private.Results.{GivesLists, GivesTests, GivesKey, GivesKeys};
 
 use crate::evaluation::{evaluate, next_part, tested};
+use crate::groups::group_lists;
 use crate::pairs::{carried_slots, is_steady, keep_equal, with_equal};
 use std::alloc::Global;
 use xq_atoms::{Fault, Want};
@@ -69,6 +70,10 @@ fn next_tuples<W: TreeStore>(
             Ok(expand(tuples, lists, *empties, *at)?)
         }
         PlanClause::Join(range, join) => join_tuples(alloc, world, frame, tuples, range, join),
+        PlanClause::GroupJoin(range, join) => {
+            let lists = group_lists(alloc, world, frame, &tuples, range, join)?;
+            Ok(tuples.bind(lists)?)
+        }
         PlanClause::Let(part) => {
             let lists = values(alloc, world, frame, &tuples, part)?;
             Ok(tuples.bind(lists)?)
@@ -375,7 +380,7 @@ fn next_test<W: TreeStore>(
 
 /// The value of a part at one tuple, whose slots stand after those of the frame.
 #[cycle(eval)]
-fn at_tuple<W: TreeStore>(
+pub fn at_tuple<W: TreeStore>(
     alloc: Global,
     world: &mut W,
     frame: EvalContext<'_>,

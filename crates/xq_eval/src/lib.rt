@@ -9,6 +9,7 @@ mod concatenation;
 mod counting;
 mod evaluation;
 mod expressions;
+mod groups;
 mod integers;
 mod numbers;
 mod pairs;

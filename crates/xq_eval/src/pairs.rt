@@ -185,7 +185,7 @@ fn comparison(equality: Equality) -> Operator
 }
 
 /// Whether the keys are equal at a tuple, whose slots come after those outside.
-fn are_equal<W: TreeStore>(
+pub fn are_equal<W: TreeStore>(
     alloc: Global,
     world: &mut W,
     frame: EvalContext<'_>,

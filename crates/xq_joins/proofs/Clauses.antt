@@ -14,10 +14,10 @@ use Rattle.xq_trees.proofs.Lists.{all_append, all_filter, all_weaker}
 use Rattle.xq_meaning.specs.declared.joins.Equality.{Equality}
 use Rattle.xq_meaning.specs.declared.joins.Join.{Join}
 use Rattle.xq_meaning.specs.declared.joins.JoinKey.{JoinKey}
-use Rattle.xq_meaning.specs.Doing.{Doing, go_on, give, in_turn, one_more, for_each}
+use Rattle.xq_meaning.specs.Doing.{Doing, go_on, ◌>>=◌, give, in_turn, more, one_more, for_each, collected}
 use Rattle.xq_meaning.specs.Forms as Forms
 use Rattle.xq_meaning.specs.Items.{Item, Node, Atom}
-use Rattle.xq_meaning.specs.PlanMeaning.{Frame, Meaning, at_tuple, keys_equal}
+use Rattle.xq_meaning.specs.PlanMeaning.{Frame, Meaning, at_tuple, keys_equal, if_equal, opened}
 use Rattle.xq_meaning.specs.Readings.{node_at, item_at, items_at, IsIn, AreIn}
 use Rattle.xq_meaning.proofs.PathLemmas.{map-map, filter-map}
 use Rattle.xq_operators.specs.Views.{tuple_at, tuples_at, TupleIn}
@@ -121,6 +121,29 @@ module _ (at : Tuple Item → Frame) (f : List Tree) (ts : List (Tuple ItemView)
       (all_expanded Value (λ e. Forms.tested m (at (tuple_at f e)) f ≡ (Ok (q e), f)) xs ts tests))
       ∙ ap (λ l. (Ok l, f)) (sym (kept_natural (tuple_at f) es (map q es)) ∙ ap (tuples_at f) (satisfying_is q es ∙ expanded_filter Value q xs ts))
 
+-- # Those of the items that pass a test, one after another
+
+module _ (f : List Tree) (test : Item → Doing Bool) (q : ItemView → Bool) where
+  abbrev passing : Item → Doing (List Item)
+  passing x = test x >>= (λ keep. give (Forms.kept_if x keep))
+
+  passing_from : (done : List Item) (xs : List ItemView) → AllByRecursion (λ x. test (item_at f x) f ≡ (Ok (q x), f)) xs
+      → in_turn (more passing) done (items_at f xs) f ≡ (Ok (done ++ items_at f (filter q xs)), f)
+  passing_from done [] h = ap (λ l. (Ok l, f)) (sym (append-nil done))
+  passing_from done (x ∷ xs) h =
+      let rest = λ (l : List Item). in_turn (more passing) l (items_at f xs) in
+      ap (λ o. go_on (go_on (go_on o (λ keep. give (Forms.kept_if (item_at f x) keep))) (λ ys. give (done ++ ys))) rest) h.0
+      ∙ by (q x) (λ l. passing_from l xs h.1)
+    where
+      by : (b : Bool) → ((l : List Item) → in_turn (more passing) l (items_at f xs) f ≡ (Ok (l ++ items_at f (filter q xs)), f))
+          → in_turn (more passing) (done ++ Forms.kept_if (item_at f x) b) (items_at f xs) f
+          ≡ (Ok (done ++ items_at f (if b then x ∷ filter q xs else filter q xs)), f)
+      by true later = later (done ++ item_at f x ∷ []) ∙ ap (λ l. (Ok l, f)) (append_assoc done (item_at f x ∷ []) (items_at f (filter q xs)))
+      by false later = ap (λ l. in_turn (more passing) l (items_at f xs) f) (append-nil done) ∙ later done
+
+  pub passing_is : (xs : List ItemView) → AllByRecursion (λ x. test (item_at f x) f ≡ (Ok (q x), f)) xs → collected passing (items_at f xs) f ≡ (Ok (items_at f (filter q xs)), f)
+  passing_is xs h = passing_from [] xs h
+
 -- # Values of slots
 
 pub value_front : {X : Type 0} (n : ℕ) (slots more : Tuple X) → n < length slots → value_at n (slots ++ more) ≡ value_at n slots
@@ -196,6 +219,23 @@ module _ (equality : Equality) (f : List Tree) (outside : Tuple ItemView) (join 
   all_found [] xs next = refl
   all_found (t ∷ ts) xs next = (λ i. filter_same _ (λ x. meet (join_texts f item (x ∷ [])) (join_texts f tuple (value_at tuple.slot (outside ++ t)))) xs (meet_at t next.0) i ∷ all_found ts xs next.1 i)
 
+  -- at one tuple, those of the items that match
+  equal_at : (fr : Frame) → fr.env ≡ tuple_at f outside → (t : Tuple ItemView) (xs : List ItemView)
+      → length (outside ++ t) ≡ item.slot → IsTold equality f tuple (value_at tuple.slot (outside ++ t)) → AllByRecursion (λ x. IsTold equality f item (x ∷ [])) xs
+      → collected (if_equal join fr (tuple_at f t)) (items_at f xs) f ≡ (Ok (items_at f (found_at xs t)), f)
+  equal_at fr env t xs next told ones =
+      passing_is f (λ x. Forms.tested (keys_equal join) (at_tuple fr (opened (tuple_at f t) (x ∷ [])))) (λ x. meet (join_texts f item (x ∷ [])) (join_texts f tuple (value_at tuple.slot (outside ++ t)))) xs
+      (all_weaker (λ x. IsTold equality f item (x ∷ [])) _ (λ x one.
+      ap (λ u. Forms.tested (keys_equal join) (at_tuple fr u) f) (sym (map-append (items_at f) t ((x ∷ []) ∷ [])))
+      ∙ test_at fr env t next told x one ∙ ap (λ b. (Ok b, f)) (meet_at t next x)) xs ones)
+
+  all_equal : (fr : Frame) → fr.env ≡ tuple_at f outside → (ts : List (Tuple ItemView)) (xs : List ItemView)
+      → AllByRecursion (λ t. length (outside ++ t) ≡ item.slot) ts → AllByRecursion (λ t. IsTold equality f tuple (value_at tuple.slot (outside ++ t))) ts
+      → AllByRecursion (λ x. IsTold equality f item (x ∷ [])) xs
+      → AllByRecursion (λ (p : Tuple ItemView × List ItemView). collected (if_equal join fr (tuple_at f p.0)) (items_at f xs) f ≡ (Ok (items_at f p.1), f)) (zip ts (map (found_at xs) ts))
+  all_equal fr env [] xs next told ones = tt
+  all_equal fr env (t ∷ ts) xs next told ones = (equal_at fr env t xs next.0 told.0 ones, all_equal fr env ts xs next.1 told.1 ones)
+
   -- each tuple with those of the items that match
   pub join_gives : (ts : List (Tuple ItemView)) (xs : List ItemView) (lists : List (List ItemView)) → AreIn f xs
       → AllByRecursion (λ t. length (outside ++ t) ≡ item.slot) ts → AllByRecursion (λ t. IsTold equality f tuple (value_at tuple.slot (outside ++ t))) ts
@@ -206,6 +246,9 @@ module _ (equality : Equality) (f : List Tree) (outside : Tuple ItemView) (join 
     gives = λ frame env.
         kept_of (at_tuple frame) f ts (keys_equal join) xs (keys_meet frame env) (all_tests frame env ts xs next told ones)
         ∙ ap (λ ls. (Ok (tuples_at f (expanded Value false false ts ls)), f)) (all_found ts xs next ∙ sym is);
+    apart = λ frame env.
+        subst (λ ls. AllByRecursion (λ (p : Tuple ItemView × List ItemView). collected (if_equal join frame (tuple_at f p.0)) (items_at f xs) f ≡ (Ok (items_at f p.1), f)) (zip ts ls)) (sym is)
+        (all_equal frame env ts xs next told ones);
   }
 
 -- the keys of nodes, as items

@@ -183,6 +183,13 @@ clause-Join a b =
     ∙ fold-roll-PlanClause Meaning ClauseMeaning StepMeaning plan_form plan_clause plan_step
     (PlanClause-F.Join a b)
 
+pub clause-GroupJoin : (a : Plan) (b : Join) → plan_clause_mean (clause.GroupJoin a b)
+    ≡ plan_clause (PlanClause-F.GroupJoin (plan_mean a) b)
+clause-GroupJoin a b =
+    ap plan_clause_mean (sym (clause.rolls-GroupJoin a b))
+    ∙ fold-roll-PlanClause Meaning ClauseMeaning StepMeaning plan_form plan_clause plan_step
+    (PlanClause-F.GroupJoin a b)
+
 pub clause-Let : (a : Plan) → plan_clause_mean (clause.Let a)
     ≡ plan_clause (PlanClause-F.Let (plan_mean a))
 clause-Let a =

@@ -19,8 +19,8 @@ use Rattle.xq_meaning.specs.declared.plans.Plan.{Plan, map-Plan, fold-roll-Plan,
 use Rattle.xq_meaning.specs.declared.plans.PlanClause.{PlanClause, map-PlanClause, fold-roll-PlanClause}
 use Rattle.xq_meaning.specs.declared.plans.PlanStep.{PlanStep, map-PlanStep, fold-roll-PlanStep}
 use Rattle.xq_meaning.specs.declared.plans.Plan.TheOpen.{Plan-F, PlanClause-F, PlanStep-F}
-use Rattle.xq_meaning.specs.PlanMeaning.{Frame, Meaning, ClauseMeaning, StepMeaning, at_tuple, at_carried, comparison, formed, key_mean, keys_equal, join_tuples, next_clause, next_step, opened, plan_form, plan_clause, plan_step, plan_mean, plan_clause_mean, plan_step_mean}
-use Rattle.xq_meaning.proofs.Growth.{Grows, TreeStore, AllGrowing, extends_itself, then_grows, in_turn_grows, for_each_grows, all_of, atoms_grow, call_grows, arrow_grows, sequence_grows, chain_grows, unary_grows, or_grows, and_grows, conditional_grows, filter_grows, slash_grows, map_grows, named_node_grows, unnamed_node_grows, root_grows, step_grows, quantified_grows, for_tuples_grows, let_tuples_grows, where_tuples_grows, return_grows, count_tuples_grows, group_tuples_grows}
+use Rattle.xq_meaning.specs.PlanMeaning.{Frame, Meaning, ClauseMeaning, StepMeaning, at_tuple, at_carried, comparison, formed, key_mean, keys_equal, join_tuples, if_equal, equal_items, group_join_tuples, next_clause, next_step, opened, plan_form, plan_clause, plan_step, plan_mean, plan_clause_mean, plan_step_mean}
+use Rattle.xq_meaning.proofs.Growth.{Grows, TreeStore, AllGrowing, extends_itself, then_grows, in_turn_grows, for_each_grows, collected_grows, tested_grows, all_of, atoms_grow, call_grows, arrow_grows, sequence_grows, chain_grows, unary_grows, or_grows, and_grows, conditional_grows, filter_grows, slash_grows, map_grows, named_node_grows, unnamed_node_grows, root_grows, step_grows, quantified_grows, for_tuples_grows, let_tuples_grows, where_tuples_grows, return_grows, count_tuples_grows, group_tuples_grows}
 
 -- # What is claimed of each part
 
@@ -122,11 +122,30 @@ key_grows key frame f =
     by key_form.Data ys g = extends_itself g
     by key_form.String ys g = extends_itself g
 
+equal_grows : (join : Join) → TreeStore (keys_equal join)
+equal_grows join = chain_grows (key_mean join.left) ((comparison join.equality, key_mean join.right) ∷ []) (key_grows join.left) (key_grows join.right, tt)
+
 join_grows : (m : Meaning) → TreeStore m → (join : Join) → ClauseGrows (join_tuples m join)
 join_grows m h join frame tuples f =
     then_grows (Forms.for_tuples allowing.No false m (at_carried join frame) tuples f) _ f
     (for_tuples_grows allowing.No false m h (at_carried join frame) tuples f)
-    (λ found. where_tuples_grows (keys_equal join) (chain_grows (key_mean join.left) ((comparison join.equality, key_mean join.right) ∷ []) (key_grows join.left) (key_grows join.right, tt)) (at_tuple frame) found)
+    (λ found. where_tuples_grows (keys_equal join) (equal_grows join) (at_tuple frame) found)
+
+if_equal_grows : (join : Join) (frame : Frame) (tuple : Tuple Item) (x : Item) → Grows (if_equal join frame tuple x)
+if_equal_grows join frame tuple x f =
+    let at = at_tuple frame (opened tuple (x ∷ [])) in
+    then_grows (Forms.tested (keys_equal join) at f) _ f (tested_grows (keys_equal join) (equal_grows join) at f) (λ keep g. extends_itself g)
+
+equal_items_grow : (m : Meaning) → TreeStore m → (join : Join) (frame : Frame) (tuple : Tuple Item) → Grows (equal_items m join frame tuple)
+equal_items_grow m h join frame tuple f =
+    then_grows (m (at_carried join frame tuple) f) _ f (h (at_carried join frame tuple) f)
+    (λ xs. collected_grows (if_equal join frame tuple) xs (all_of (λ x. Grows (if_equal join frame tuple x)) (if_equal_grows join frame tuple) xs))
+
+group_join_grows : (m : Meaning) → TreeStore m → (join : Join) → ClauseGrows (group_join_tuples m join)
+group_join_grows m h join frame tuples f =
+    then_grows (for_each (equal_items m join frame) tuples f) _ f
+    (for_each_grows (equal_items m join frame) tuples (all_of (λ t. Grows (equal_items m join frame t)) (equal_items_grow m h join frame) tuples) f)
+    (λ lists g. extends_itself g)
 
 abbrev clause_parts : PlanClause-F P C S → PlanClause-F Meaning ClauseMeaning StepMeaning
 clause_parts y =
@@ -136,6 +155,7 @@ clause_parts y =
 clause_grows : (y : PlanClause-F P C S) → ClauseGrows (plan_clause (clause_parts y))
 clause_grows (PlanClause-F.For empties at part) = λ frame. for_tuples_grows empties at (plan_mean part.0) part.1 (at_tuple frame)
 clause_grows (PlanClause-F.Join part join) = λ frame. join_grows (plan_mean part.0) part.1 join frame
+clause_grows (PlanClause-F.GroupJoin part join) = λ frame. group_join_grows (plan_mean part.0) part.1 join frame
 clause_grows (PlanClause-F.Let part) = λ frame. let_tuples_grows (plan_mean part.0) part.1 (at_tuple frame)
 clause_grows (PlanClause-F.Where part) = λ frame. where_tuples_grows (plan_mean part.0) part.1 (at_tuple frame)
 clause_grows (PlanClause-F.Group slots) = λ frame. group_tuples_grows slots

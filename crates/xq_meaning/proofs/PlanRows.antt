@@ -486,3 +486,30 @@ join_refuses_the_left_key : answer (p.flwor (p.let_be (p.seq (p.num 1 ∷ p.num 
     key_form.String) ∷ []) (p.num 1)) ≡ Err XPTY0019
 unfolding digits chars
 join_refuses_the_left_key = refl
+
+-- for $x in ("a", "b", "c") let $m := for $y in ("b", "a", "b") where $y = $x return $y return
+-- count($m), by a group join
+group_join_counts : answer (p.flwor (p.for_in (p.seq (p.txt "a" ∷ p.txt "b" ∷ p.txt "c" ∷ []))
+    ∷ p.group_join (p.seq (p.txt "b" ∷ p.txt "a" ∷ p.txt "b" ∷ [])) equality.General (p.key 1 []
+    key_form.Value) (p.key 0 [] key_form.Value) ∷ []) (p.call f.Count (p.slot 1 ∷ []))) ≡ Ok (codes
+    "1, 2, 0")
+unfolding digits chars
+group_join_counts = refl
+
+-- let $d := doc("b"), $i := "2" let $m := for $b in $d//book where $i eq string($b/@id) return $b
+-- return string($m), by a group join whose range starts from a slot of the tuple
+group_join_from_a_slot : answer (p.flwor (p.let_be (p.call f.Doc (p.txt "b" ∷ [])) ∷ p.let_be
+    (p.txt "2") ∷ p.group_join_from 0 (p.path (p.slot 0) (p.scan axis.DescendantOrSelf test.Any
+    ∷ p.scan axis.Child (test.Element (Some (codes "book"))) ∷ [])) equality.Value (p.key 1 []
+    key_form.Value) (p.key 2 ((axis.Attributes, test.Attribute (Some (codes "id"))) ∷ [])
+    key_form.String) ∷ []) (p.call f.String (p.slot 2 ∷ []))) ≡ Ok (codes "\"B\"")
+unfolding digits chars
+group_join_from_a_slot = refl
+
+-- for $x in ("a", "b") let $y := () let $m := for $z in (1, 2) where string($y) eq $z return $z
+-- return 1, by a group join: the empty text and a number
+group_join_of_the_empty_text : answer (p.flwor (p.for_in (p.seq (p.txt "a" ∷ p.txt "b" ∷ []))
+    ∷ p.let_be (p.seq []) ∷ p.group_join (p.seq (p.num 1 ∷ p.num 2 ∷ [])) equality.Value (p.key 1 []
+    key_form.String) (p.key 2 [] key_form.Value) ∷ []) (p.num 1)) ≡ Err XPTY0004
+unfolding digits chars
+group_join_of_the_empty_text = refl

@@ -127,6 +127,24 @@ join_from slot range equality left right =
       right = right;
     }))
 
+abbrev pub group_join : Meaning → Equality → JoinKey → JoinKey → ClauseMeaning
+group_join range equality left right =
+    plan_clause (PlanClause-F.GroupJoin range (record {
+      carried = None;
+      equality = equality;
+      left = left;
+      right = right;
+    }))
+
+abbrev pub group_join_from : ℕ → Meaning → Equality → JoinKey → JoinKey → ClauseMeaning
+group_join_from slot range equality left right =
+    plan_clause (PlanClause-F.GroupJoin range (record {
+      carried = Some slot;
+      equality = equality;
+      left = left;
+      right = right;
+    }))
+
 abbrev pub numbers : ClauseMeaning
 numbers = plan_clause PlanClause-F.Count
 

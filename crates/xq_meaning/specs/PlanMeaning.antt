@@ -16,9 +16,9 @@ use Rattle.xq_meaning.specs.declared.plans.PlanClause.{PlanClause, fold-PlanClau
 use Rattle.xq_meaning.specs.declared.plans.PlanStep.{PlanStep, fold-PlanStep}
 use Rattle.xq_meaning.specs.declared.plans.Plan.TheOpen.{Plan-F, PlanClause-F, PlanStep-F}
 use Rattle.xq_atoms.specs.Atom.{Integer, Decimal, String}
-use Rattle.xq_trees.specs.Tuples.{Tuple, value_at}
+use Rattle.xq_trees.specs.Tuples.{Tuple, value_at, bound}
 use Rattle.xq_meaning.specs.Items.{Item, Atom, atomized}
-use Rattle.xq_meaning.specs.Doing.{Doing, ◌>>=◌, give, refuse, on_trees, in_turn}
+use Rattle.xq_meaning.specs.Doing.{Doing, ◌>>=◌, give, refuse, on_trees, in_turn, for_each, collected}
 use Rattle.xq_meaning.specs.Forms
 use Rattle.xq_meaning.specs.Functions as Functions
 
@@ -122,11 +122,32 @@ join_tuples range join frame tuples = do
   found ← Forms.for_tuples allowing.No false range (at_carried join frame) tuples
   Forms.where_tuples (keys_equal join) (at_tuple frame) found
 
+-- # Group joins: a `let` of the items that a `for` and such a `where` keep
+
+-- 3.12.5: the item, where with it in the next slot the keys are equal
+abbrev pub if_equal : Join → Frame → Tuple Item → Item → Doing (List Item)
+if_equal join frame tuple x = do
+  keep ← Forms.tested (keys_equal join) (at_tuple frame (opened tuple (x ∷ [])))
+  give (Forms.kept_if x keep)
+
+-- those of the items of the range at a tuple
+abbrev pub equal_items : Meaning → Join → Frame → Tuple Item → Doing (List Item)
+equal_items range join frame tuple = do
+  xs ← range (at_carried join frame tuple)
+  collected (if_equal join frame tuple) xs
+
+-- 3.12.3: each tuple with these items
+abbrev pub group_join_tuples : Meaning → Join → ClauseMeaning
+group_join_tuples range join frame tuples = do
+  lists ← for_each (equal_items range join frame) tuples
+  give (bound tuples lists)
+
 -- a clause, from the meanings of its parts
 abbrev pub plan_clause : PlanClause-F Meaning ClauseMeaning StepMeaning → ClauseMeaning
 plan_clause (PlanClause-F.For empties at part) frame =
     Forms.for_tuples empties at part (at_tuple frame)
 plan_clause (PlanClause-F.Join range join) frame = join_tuples range join frame
+plan_clause (PlanClause-F.GroupJoin range join) frame = group_join_tuples range join frame
 plan_clause (PlanClause-F.Let part) frame = Forms.let_tuples part (at_tuple frame)
 plan_clause (PlanClause-F.Where part) frame = Forms.where_tuples part (at_tuple frame)
 plan_clause (PlanClause-F.Group slots) frame = Forms.group_tuples slots

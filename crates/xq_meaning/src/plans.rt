@@ -66,6 +66,10 @@ pub enum PlanClause {
     /// What the item ranges over, which reads of the slots of the tuples none but the one that is
     /// carried, and the keys that are compared: a `for`, and the `where` after it.
     Join(Plan, Join),
+    /// What the next slot takes its items from, and the keys that are compared: each tuple gets the
+    /// items whose keys are equal, as a `let` of what a `for` and its `where` give (XQuery 3.1,
+    /// sections 3.12.3 and 3.12.5).
+    GroupJoin(Plan, Join),
     Let(Plan),
     Where(Plan),
     /// By slots of the tuples, numbered from 0 for the first binding of this FLWOR.

@@ -1,6 +1,6 @@
 -- Parts that read only slots that are known.
 use Rattle.std.proofs.Common.{◌≡◌, ℕ, zero, suc, List, [], ◌∷◌, ◌++◌, map, refl, sym, ap, ◌∙◌, subst}
-use Rattle.std.specs.Prelude.{Option, Some, Ok, slice_get}
+use Rattle.std.specs.Prelude.{Some, Ok, slice_get}
 use Rattle.std.specs.List.{AllByRecursion}
 use Rattle.xq_atoms.specs.Text.{Text}
 use Rattle.xq_expressions.specs.declared.operators.Relation.{Relation}
@@ -11,14 +11,12 @@ use Rattle.xq_meaning.specs.declared.operators.Operator.TheVariants as operator
 use Rattle.xq_meaning.specs.declared.plans.Plan.{Plan}
 use Rattle.xq_meaning.specs.declared.plans.Plan.TheVariants as plan
 use Rattle.xq_meaning.specs.declared.plans.PlanStep.{PlanStep}
-use Rattle.xq_meaning.specs.Doing.{go_on, in_turn}
-use Rattle.xq_meaning.specs.Forms
-use Rattle.xq_meaning.specs.Functions.{Focus}
+use Rattle.xq_meaning.specs.Doing.{in_turn}
 use Rattle.xq_meaning.specs.Items.{Item}
 use Rattle.xq_meaning.specs.PlanMeaning.{Slots, Frame, next_step, plan_mean, plan_step_mean}
 use Rattle.xq_meaning.specs.Same.{frame_of}
 use Rattle.xq_meaning.proofs.PlanEquations as plan_eq
-use Rattle.xq_meaning.proofs.SameForms.{AreRelated, then_same, in_turn_same, chain_same, and_same, Same, AllSame}
+use Rattle.xq_meaning.proofs.SameForms.{AreRelated, then_same, in_turn_same, chain_same, Same}
 use Rattle.xq_optimise.specs.declared.held.Held.{Held}
 use Rattle.xq_optimise.specs.Known.{Fits}
 use Rattle.xq_optimise.specs.declared.held.Held.TheVariants.{Nodes}

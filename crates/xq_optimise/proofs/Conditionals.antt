@@ -1,40 +1,28 @@
 -- A FLWOR that returns a conditional gives what one with the test as a `where` gives.
-use Rattle.std.proofs.Common.{◌≡◌, ℕ, ℤ, List, [], ◌∷◌, ◌++◌, map, length, Bool, true, false, Ok, Err, refl, sym, ap, ◌∙◌, subst}
-use Rattle.std.specs.Prelude.{Option}
-use Rattle.std.specs.List.{AllByRecursion, flat_map}
+use Rattle.std.proofs.Common.{◌≡◌, ℕ, List, [], ◌∷◌, ◌++◌, map, length, Bool, true, false, Ok, Err, refl, sym, ap, ◌∙◌, subst}
 use Rattle.std.proofs.lemmas.List.{append-nil, map-append}
 use Rattle.xq_atoms.specs.Judged.{Judged}
-use Rattle.xq_atoms.specs.declared.refusals.Code.TheVariants.{XPTY0019}
-use Rattle.xq_atoms.specs.Text.{Text}
-use Rattle.xq_expressions.specs.declared.signatures.Function.{Function}
-use Rattle.xq_trees.specs.declared.Axis.{Axis}
 use Rattle.xq_trees.specs.Tree.{Tree}
-use Rattle.xq_trees.specs.Tuples.{Tuple, satisfying, value_at}
-use Rattle.xq_meaning.specs.Arguments.{all_nodes}
-use Rattle.xq_meaning.specs.Operators.{in_order}
-use Rattle.xq_meaning.specs.Steps.{axis_nodes}
-use Rattle.xq_meaning.specs.declared.node_tests.Test.{Test}
+use Rattle.xq_trees.specs.Tuples.{Tuple, satisfying}
 use Rattle.xq_meaning.specs.declared.plans.Plan.{Plan}
 use Rattle.xq_meaning.specs.declared.plans.Plan.TheVariants as plan
 use Rattle.xq_meaning.specs.declared.plans.PlanClause.{PlanClause}
 use Rattle.xq_meaning.specs.declared.plans.PlanClause.TheVariants as clause
-use Rattle.xq_meaning.specs.declared.plans.PlanStep.{PlanStep}
-use Rattle.xq_meaning.specs.Doing.{Doing, Outcome, go_on, give, in_turn, more, one_more, on_trees, judged}
+use Rattle.xq_meaning.specs.Doing.{Doing, Outcome, go_on, give, in_turn, more}
 use Rattle.xq_meaning.specs.Forms
-use Rattle.xq_meaning.specs.Functions.{Focus, called}
-use Rattle.xq_meaning.specs.Items.{Place, Item}
-use Rattle.xq_meaning.specs.PlanMeaning.{Slots, Frame, Meaning, at_tuple, next_clause, next_step, plan_mean, plan_clause_mean, plan_step_mean}
+use Rattle.xq_meaning.specs.Items.{Item}
+use Rattle.xq_meaning.specs.PlanMeaning.{Frame, at_tuple, next_clause, plan_mean, plan_clause_mean}
 use Rattle.xq_meaning.specs.Same.{frame_of}
 use Rattle.xq_meaning.proofs.PlanEquations as plan_eq
-use Rattle.xq_meaning.proofs.Turns.{go_on_give, in_turn-append}
+use Rattle.xq_meaning.proofs.Turns.{in_turn-append}
 use Rattle.xq_optimise.specs.declared.held.Held.{Held}
 use Rattle.xq_optimise.specs.Known.{Fits}
 use Rattle.xq_optimise.specs.Same.{GivesSame}
-use Rattle.xq_optimise.specs.Sure.{SurelyTells, IsTest}
+use Rattle.xq_optimise.specs.Sure.{IsTest}
 use Rattle.xq_optimise.specs.private.FlworParts.{MayStand, StandsForFlwor}
 use Rattle.xq_optimise.specs.private.Joins.{LeavesTrees}
-use Rattle.xq_optimise.specs.private.Parts.{AreAll, AllFit, GivesFitting, IsScan, SameClauses}
-use Rattle.xq_optimise.proofs.Conjuncts.{Tells, test_at, answers, where_told}
+use Rattle.xq_optimise.specs.private.Parts.{AreAll, GivesFitting, SameClauses}
+use Rattle.xq_optimise.proofs.Conjuncts.{Tells, answers, where_told}
 use Rattle.xq_optimise.proofs.Fitting.{fits_length}
 
 -- # The return

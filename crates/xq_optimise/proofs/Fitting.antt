@@ -1,11 +1,11 @@
 -- What is known of the slots of tuples, clause by clause.
-use Rattle.std.proofs.Common.{◌≡◌, ℕ, zero, suc, ◌+◌, ◌-◌, List, [], ◌∷◌, ◌++◌, map, length, take, drop, Bool, true, false, Ok, Err, refl, sym, ap, ◌∙◌, subst, arith, if◌then◌else◌}
+use Rattle.std.proofs.Common.{◌≡◌, ℕ, zero, suc, ◌+◌, ◌-◌, List, [], ◌∷◌, ◌++◌, map, length, take, Bool, true, false, Ok, Err, refl, sym, subst, arith, if◌then◌else◌}
 use Rattle.std.specs.Prelude.{pos, replicate, filter, not, nat_eq, ◌&&◌}
 use Rattle.std.specs.List.{AllByRecursion, zip, enumerate_from, list_all}
 use Rattle.std.specs.declared.cmp.Ordering.{Ordering}
 use Rattle.std.specs.Ordering.{is_lt}
 use Rattle.std.specs.Cmp.Lexicographic.{pointwise}
-use Rattle.std.proofs.lemmas.List.{append_assoc, append-nil, length-append}
+use Rattle.std.proofs.lemmas.List.{append_assoc, length-append}
 use Rattle.std.proofs.lemmas.List.Concat.{flat_map-cons}
 use Rattle.std.proofs.lemmas.Cmp.{int_eq_equiv}
 use Rattle.std.proofs.lemmas.Slice.Eq.{bytes_eq-Decides}
@@ -26,7 +26,7 @@ use Rattle.xq_meaning.specs.Forms
 use Rattle.xq_meaning.specs.PlanMeaning.{Slots}
 use Rattle.xq_optimise.specs.declared.held.Held.{Held}
 use Rattle.xq_optimise.specs.declared.held.Held.TheVariants.{Nodes, Anything}
-use Rattle.xq_optimise.specs.Known.{AreNodes, Holds, Fits}
+use Rattle.xq_optimise.specs.Known.{Holds, Fits}
 use Rattle.xq_optimise.specs.private.Parts.{GivesHeld, AllFit, GivesFitting, with_position, forgotten}
 
 -- # Slots

@@ -1,13 +1,11 @@
 -- Clauses give the same tuples, and slots as known, where their parts give the same.
-use Rattle.std.proofs.Common.{◌≡◌, ℕ, ◌+◌, ◌≤◌, List, [], ◌∷◌, ◌++◌, map, length, take, drop, Bool, true, false, Option, Ok, Err, refl, sym, ap, ◌∙◌, subst, arith, if◌then◌else◌}
+use Rattle.std.proofs.Common.{◌≡◌, ℕ, List, [], ◌∷◌, ◌++◌, map, length, Bool, Option, Ok, Err, refl, sym, ap, ◌∙◌, subst}
 use Rattle.std.specs.List.{AllByRecursion}
-use Rattle.std.proofs.lemmas.List.{length-append, map-append, append_assoc, append-nil, take_all, take-append-le}
-use Rattle.std.proofs.lemmas.Simd.{map-map}
+use Rattle.std.proofs.lemmas.List.{append-nil}
 use Rattle.xq_atoms.specs.Text.{Text}
 use Rattle.xq_atoms.specs.declared.refusals.Code.{Code}
 use Rattle.xq_expressions.specs.declared.operators.AllowingEmpty.{AllowingEmpty}
 use Rattle.xq_expressions.specs.declared.operators.OrderModifier.{OrderModifier}
-use Rattle.xq_expressions.specs.declared.operators.Quantifier.{Quantifier}
 use Rattle.xq_trees.specs.Tree.{Tree}
 use Rattle.xq_trees.specs.Tuples.{Tuple}
 use Rattle.xq_meaning.specs.Items.{Item}
@@ -16,20 +14,20 @@ use Rattle.xq_meaning.specs.declared.plans.Plan.{Plan}
 use Rattle.xq_meaning.specs.declared.plans.Plan.TheVariants as plan
 use Rattle.xq_meaning.specs.declared.plans.PlanClause.{PlanClause}
 use Rattle.xq_meaning.specs.declared.plans.PlanClause.TheVariants as clause
-use Rattle.xq_meaning.specs.Doing.{Doing, Outcome, go_on, in_turn}
+use Rattle.xq_meaning.specs.Doing.{Outcome, go_on, in_turn}
 use Rattle.xq_meaning.specs.Forms
-use Rattle.xq_meaning.specs.PlanMeaning.{Slots, Frame, Meaning, ClauseMeaning, at_tuple, next_clause, opened, plan_mean, plan_clause_mean}
+use Rattle.xq_meaning.specs.PlanMeaning.{Slots, Frame, Meaning, ClauseMeaning, at_tuple, next_clause, plan_mean, plan_clause_mean}
 use Rattle.xq_meaning.specs.Same.{frame_of}
 use Rattle.xq_meaning.proofs.PlanEquations as plan_eq
 use Rattle.xq_meaning.proofs.Turns.{go_on_give}
-use Rattle.xq_meaning.proofs.SameForms.{AreRelated, Same, SameBindings, quantified_same, then_same, for_tuples_same, let_tuples_same, where_tuples_same, order_tuples_same, return_same, SameAt, SameKey as KeySame, SameModifier}
+use Rattle.xq_meaning.proofs.SameForms.{AreRelated, for_tuples_same, let_tuples_same, where_tuples_same, order_tuples_same, return_same, SameAt, SameKey as KeySame, SameModifier}
 use Rattle.xq_optimise.specs.declared.held.Held.{Held}
 use Rattle.xq_optimise.specs.declared.held.Held.TheVariants.{Anything}
-use Rattle.xq_optimise.specs.Known.{Holds, Fits}
+use Rattle.xq_optimise.specs.Known.{Fits}
 use Rattle.xq_optimise.specs.Same.{GivesSame}
-use Rattle.xq_optimise.specs.private.Parts.{AreAll, SameKey, IsHeld, GivesHeld, AllFit, GivesFitting, Follows, SameClause, SameMany, SameClauses, SameRanges, Extends, with_position, forgotten}
-use Rattle.xq_optimise.proofs.Forms.{related_map, by_form, same_of}
-use Rattle.xq_optimise.proofs.Fitting.{fits_more, fits_length, items_hold, for_fits, let_fits, where_fits, order_fits, count_fits, group_fits}
+use Rattle.xq_optimise.specs.private.Parts.{AreAll, SameKey, IsHeld, GivesHeld, AllFit, GivesFitting, Follows, SameClause, SameMany, SameClauses, with_position, forgotten}
+use Rattle.xq_optimise.proofs.Forms.{related_map}
+use Rattle.xq_optimise.proofs.Fitting.{fits_length, for_fits, let_fits, where_fits, order_fits, count_fits, group_fits}
 
 -- # The frame of a tuple
 

@@ -17,15 +17,15 @@ use Rattle.xq_meaning.specs.declared.plans.PlanStep.{PlanStep}
 use Rattle.xq_meaning.specs.Arguments.{effective, boolean, as_boolean}
 use Rattle.xq_meaning.specs.Doing.{go_on, give, judged, on_trees, in_turn}
 use Rattle.xq_meaning.specs.Forms
-use Rattle.xq_meaning.specs.Items.{Place, Item, Node, atomized}
+use Rattle.xq_meaning.specs.Items.{Place, Node, atomized}
 use Rattle.xq_meaning.specs.Operators.{keeps, operated, related_by, some_pair}
 use Rattle.xq_meaning.specs.PlanMeaning.{Slots, Frame, next_step, plan_mean, plan_step_mean}
 use Rattle.xq_meaning.specs.Same.{frame_of}
 use Rattle.xq_meaning.specs.Steps.{is_reverse, in_axis_order, axis_nodes}
 use Rattle.xq_meaning.proofs.PlanEquations as plan_eq
-use Rattle.xq_meaning.proofs.SameForms.{then_same, in_turn_same}
+use Rattle.xq_meaning.proofs.SameForms.{in_turn_same}
 use Rattle.xq_optimise.specs.declared.held.Held.{Held}
-use Rattle.xq_optimise.specs.Sure.{IsText, SurelyNodes, IgnoresFocus, on_node, KeepsBy, SurelyKeeps, SurelyFinds, SurelyFindsTexts}
+use Rattle.xq_optimise.specs.Sure.{SurelyNodes, IgnoresFocus, on_node, SurelyKeeps, SurelyFinds, SurelyFindsTexts}
 use Rattle.xq_optimise.specs.private.Parts.{IsPlainStep, IsScan, general_comparison}
 use Rattle.xq_optimise.proofs.Below.{scans_alike}
 use Rattle.xq_optimise.proofs.Scans.{scans_from}
@@ -42,7 +42,7 @@ order-map : (b : Bool) (ps : List Place) → map Node (if b then reverse ps else
 order-map true ps = map_reverse Node ps
 order-map false ps = refl
 
-step_found : (axis : Axis) (test : Test) (slots : Slots) (addresses : List Text) (f : List Tree) (p : Place) (position last : ℕ) →
+pub step_found : (axis : Axis) (test : Test) (slots : Slots) (addresses : List Text) (f : List Tree) (p : Place) (position last : ℕ) →
     plan_mean (plan.Step axis test []) (frame_of slots (Some (on_node p position last)) addresses) f
     ≡ (Ok (map Node (axis_nodes f axis test p)), f)
 step_found axis test slots addresses f p position last =

@@ -1,10 +1,9 @@
 -- A join gives what a `for` and a `where` give.
-use Rattle.std.proofs.Common.{◌≡◌, ℕ, zero, suc, ◌+◌, ◌<◌, ◌≤◌, List, [], ◌∷◌, ◌++◌, map, length, reverse, get_or, false, Option, Some, None, Result, Ok, Err, inl, inr, refl, sym, ap, ◌∙◌, subst, arith}
+use Rattle.std.proofs.Common.{◌≡◌, ℕ, ◌<◌, ◌≤◌, List, [], ◌∷◌, ◌++◌, map, length, reverse, get_or, false, Option, Some, None, Result, Ok, Err, inl, inr, refl, sym, ap, ◌∙◌, subst, arith}
 use Rattle.std.specs.Prelude.{IfOk, IfSome}
 use Rattle.std.specs.List.{AllByRecursion}
-use Rattle.std.proofs.lemmas.List.{append_assoc, append-nil, map-append}
+use Rattle.std.proofs.lemmas.List.{append-nil, map-append}
 use Rattle.xq_atoms.specs.Text.{Text}
-use Rattle.xq_atoms.specs.Atom.{String}
 use Rattle.xq_expressions.specs.declared.operators.AllowingEmpty.TheVariants as allowing
 use Rattle.xq_expressions.specs.declared.signatures.Function.{Function}
 use Rattle.xq_expressions.specs.declared.signatures.Function.TheVariants as function
@@ -21,32 +20,31 @@ use Rattle.xq_meaning.specs.declared.plans.Plan.{Plan}
 use Rattle.xq_meaning.specs.declared.plans.Plan.TheVariants as plan
 use Rattle.xq_meaning.specs.declared.plans.PlanClause.{PlanClause}
 use Rattle.xq_meaning.specs.declared.plans.PlanClause.TheVariants as clause
-use Rattle.xq_meaning.specs.declared.plans.PlanStep.{PlanStep}
-use Rattle.xq_meaning.specs.Doing.{Doing, Outcome, go_on, give, in_turn, one_more, on_trees}
+use Rattle.xq_meaning.specs.Doing.{Doing, Outcome, go_on, give, in_turn, on_trees}
 use Rattle.xq_meaning.specs.Forms
 use Rattle.xq_meaning.specs.Functions.{Focus, called}
 use Rattle.xq_meaning.specs.Items.{Item}
 use Rattle.xq_meaning.specs.Operators as Operators
-use Rattle.xq_meaning.specs.PlanMeaning.{Slots, Frame, Meaning, at_tuple, at_carried, carried, comparison, formed, key_from, key_mean, keys_equal, join_tuples, next_clause, next_step, plan_mean, plan_clause_mean, plan_step_mean}
+use Rattle.xq_meaning.specs.PlanMeaning.{Slots, Frame, at_tuple, at_carried, carried, comparison, formed, key_mean, keys_equal, next_clause, next_step, plan_mean, plan_clause_mean, plan_step_mean}
 use Rattle.xq_meaning.specs.Same.{frame_of}
 use Rattle.xq_meaning.proofs.PlanEquations as plan_eq
-use Rattle.xq_meaning.proofs.SameForms.{AreRelated, then_same, go_on_same, in_turn_same, for_tuples_same, where_tuples_same, SameAt}
+use Rattle.xq_meaning.proofs.SameForms.{then_same, go_on_same, in_turn_same, for_tuples_same, where_tuples_same, SameAt}
 use Rattle.xq_meaning.proofs.Turns.{go_on_give, in_turn-append}
 use Rattle.xq_optimise.specs.declared.held.Held.{Held}
 use Rattle.xq_optimise.specs.declared.held.Held.TheVariants.{Anything}
-use Rattle.xq_optimise.specs.private.Joins.{scan_step, equal_plan, StartsAt, IsKey, IsKeys, IsRenamed, ReadsOutside, Carries, SameList, AddsJoin}
+use Rattle.xq_optimise.specs.private.Joins.{scan_step, equal_plan, StartsAt, IsKey, IsKeys, IsRenamed, Carries, SameList, AddsJoin}
 use Rattle.xq_optimise.specs.private.Order.{SameTurns}
-use Rattle.xq_optimise.specs.private.Parts.{GivesHeld, IsScan, AllFit, GivesFitting, Follows, SameClause, SameMany, SameClauses, AddsClauses}
+use Rattle.xq_optimise.specs.private.Parts.{GivesHeld, GivesFitting, SameClause, SameMany, AddsClauses}
 use Rattle.xq_optimise.proofs.Below.{scans_alike}
 use Rattle.xq_optimise.proofs.Fitting.{for_fits, where_fits}
-use Rattle.xq_optimise.proofs.Flwor.{one_follows, all_held}
+use Rattle.xq_optimise.proofs.Flwor.{one_follows}
 
 -- # Keys
 
 pub slot_is : (n : ℕ) (frame : Frame) (f : List Tree) → plan_mean (plan.Slot n) frame f ≡ (Ok (value_at n frame.env), f)
 slot_is n frame f = ap (λ m. m frame f) (plan_eq.plan-Slot n)
 
-scans_are : (frame : Frame) (scans : List (Axis × Test)) (xs : List Item) (f : List Tree) →
+pub scans_are : (frame : Frame) (scans : List (Axis × Test)) (xs : List Item) (f : List Tree) →
     in_turn (λ zs (s : Axis × Test). Forms.scan s.0 s.1 zs) xs scans f ≡ in_turn (next_step frame) xs (map plan_step_mean (map scan_step scans)) f
 scans_are frame [] xs f = refl
 scans_are frame (s ∷ ss) xs f =
@@ -85,7 +83,7 @@ plain_key key p form at frame f =
     ap (λ k. go_on (led key frame f) (formed k)) form ∙ go_on_give (led key frame f) ∙ starts key p at frame f
 
 -- a call of one argument
-called_is : (name : Function) (p : Plan) (frame : Frame) (f : List Tree) →
+pub called_is : (name : Function) (p : Plan) (frame : Frame) (f : List Tree) →
     plan_mean (plan.Call name (p ∷ [])) frame f ≡ go_on (plan_mean p frame f) (λ xs. on_trees (λ trees. called name trees frame.addresses frame.focus (xs ∷ [])))
 called_is name p frame f = ap (λ m. m frame f) (plan_eq.plan-Call name (p ∷ [])) ∙ by (plan_mean p frame f)
   where

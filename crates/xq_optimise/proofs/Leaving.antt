@@ -1,5 +1,5 @@
 -- Evaluations that leave the trees as they are, whatever they give.
-use Rattle.std.proofs.Common.{◌≡◌, List, [], ◌∷◌, ◌++◌, map, Bool, true, false, Ok, Err, refl, ap, ◌∙◌, subst, sym}
+use Rattle.std.proofs.Common.{◌≡◌, List, [], ◌∷◌, ◌++◌, map, Bool, true, false, Ok, Err, refl, ap, ◌∙◌}
 use Rattle.std.specs.Prelude.{not}
 use Rattle.std.specs.List.{AllByRecursion, flat_map}
 use Rattle.xq_atoms.specs.Judged.{Judged}
@@ -11,7 +11,7 @@ use Rattle.xq_trees.specs.Tree.{Tree}
 use Rattle.xq_meaning.specs.declared.node_tests.Test.{Test}
 use Rattle.xq_meaning.specs.declared.operators.Operator.{Operator}
 use Rattle.xq_meaning.specs.Arguments.{all_nodes}
-use Rattle.xq_meaning.specs.Doing.{Doing, Outcome, go_on, in_turn, one_more, more, collected, unless_found, first_that, ◌>>=◌, give, judged, on_trees}
+use Rattle.xq_meaning.specs.Doing.{Doing, go_on, in_turn, one_more, more, collected, unless_found, first_that, ◌>>=◌, give, judged, on_trees}
 use Rattle.xq_meaning.specs.Forms
 use Rattle.xq_meaning.specs.Functions.{Focus}
 use Rattle.xq_meaning.specs.Items.{Item, Place, Node}
@@ -85,7 +85,7 @@ in_frame : (frame : Frame) (parts : List Meaning) → AllByRecursion Quiet parts
 in_frame frame [] all = tt
 in_frame frame (p ∷ parts) all = (all.0 frame, in_frame frame parts all.1)
 
-tested_leaves : (part : Meaning) → Quiet part → (frame : Frame) → Leaves (Forms.tested part frame)
+pub tested_leaves : (part : Meaning) → Quiet part → (frame : Frame) → Leaves (Forms.tested part frame)
 tested_leaves part h frame = then_leaves (part frame) _ (h frame) (λ xs f. (_, refl))
 
 tests_leave : (frame : Frame) (parts : List Meaning) → AllByRecursion Quiet parts → AllByRecursion (λ (part : Meaning). Leaves (Forms.tested part frame)) parts

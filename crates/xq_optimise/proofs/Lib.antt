@@ -18,7 +18,13 @@ pub mod WholePaths
 pub mod Rising
 pub mod JoinLaws
 pub mod Leaving
+pub mod GroupJoins
+pub mod GroupLets
 pub mod SlotsOutside
+pub mod FromOne
+pub mod FilterLaws
+pub mod GroupMatches
+pub mod GroupReturns
 pub mod TupleByTuple
 pub mod NestedReturns
 pub mod WrittenOut

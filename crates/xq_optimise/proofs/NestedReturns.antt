@@ -1,17 +1,15 @@
 -- A FLWOR that returns another one gives what one with the clauses of both gives.
-use Rattle.std.proofs.Common.{◌≡◌, ℕ, ◌+◌, ◌≤◌, ◌<◌, List, [], ◌∷◌, ◌++◌, map, length, take, Bool, Ok, Err, ◌⊎◌, inl, inr, refl, sym, ap, ◌∙◌, subst, arith}
+use Rattle.std.proofs.Common.{◌≡◌, ℕ, ◌+◌, ◌≤◌, ◌<◌, List, [], ◌∷◌, ◌++◌, map, length, take, Bool, Ok, Err, ◌⊎◌, inl, inr, refl, sym, ap, ◌∙◌, subst}
 use Rattle.std.specs.Prelude.{Option, get_or}
 use Rattle.std.specs.List.{AllByRecursion}
 use Rattle.std.proofs.lemmas.List.{map-append}
 use Rattle.xq_atoms.specs.Judged.{Judged}
 use Rattle.xq_atoms.specs.Text.{Text}
-use Rattle.xq_expressions.specs.declared.operators.AllowingEmpty.{AllowingEmpty}
 use Rattle.xq_trees.specs.Tree.{Tree}
 use Rattle.xq_trees.specs.Tuples.{Tuple}
 use Rattle.xq_meaning.specs.declared.plans.Plan.{Plan}
 use Rattle.xq_meaning.specs.declared.plans.Plan.TheVariants as plan
 use Rattle.xq_meaning.specs.declared.plans.PlanClause.{PlanClause}
-use Rattle.xq_meaning.specs.declared.plans.PlanClause.TheVariants as clause
 use Rattle.xq_meaning.specs.Doing.{Outcome, go_on, in_turn, collected}
 use Rattle.xq_meaning.specs.Forms
 use Rattle.xq_meaning.specs.Functions.{Focus}
@@ -20,15 +18,13 @@ use Rattle.xq_meaning.specs.PlanMeaning.{Slots, Frame, ClauseMeaning, at_tuple, 
 use Rattle.xq_meaning.specs.Same.{frame_of}
 use Rattle.xq_meaning.proofs.PlanEquations as plan_eq
 use Rattle.xq_meaning.proofs.SameForms.{return_same}
-use Rattle.xq_meaning.proofs.Turns.{go_on_give, in_turn-append}
+use Rattle.xq_meaning.proofs.Turns.{in_turn-append}
 use Rattle.xq_optimise.specs.declared.held.Held.{Held}
-use Rattle.xq_optimise.specs.Known.{Fits}
 use Rattle.xq_optimise.specs.Same.{GivesSame}
 use Rattle.xq_optimise.specs.Sure.{SurelyNodes, IsTest}
 use Rattle.xq_optimise.specs.private.FlworParts.{StandsForFlwor, IsSteadyPart, IsSteady, AreSteady}
 use Rattle.xq_optimise.specs.private.Joins.{LeavesTrees, IsOutside}
-use Rattle.xq_optimise.specs.private.Parts.{AreAll, AllFit, GivesFitting, Follows, SameMany, SameClauses, Extends}
-use Rattle.xq_optimise.proofs.Conjuncts.{answers}
+use Rattle.xq_optimise.specs.private.Parts.{AllFit, GivesFitting, SameMany, SameClauses, Extends}
 use Rattle.xq_optimise.proofs.Elements.{next_taken}
 use Rattle.xq_optimise.proofs.Flwor.{tuple_at, all_same}
 use Rattle.xq_optimise.proofs.TupleByTuple.{Pointwise, for_pointwise, let_pointwise, where_pointwise, Good, Bad, spread, AllValued, none_good, good_more, refused_more, bad_more, whole_more, good_returned, bad_returned}

@@ -82,7 +82,7 @@ among_kept k qs p =
     turned false false = refl
 
 -- those that are kept in document order are kept of those in document order
-kept_in_order : (k : Place → Bool) (f : List Tree) (qs : List Place) →
+pub kept_in_order : (k : Place → Bool) (f : List Tree) (qs : List Place) →
     in_document_order f (filter k qs) ≡ filter k (in_document_order f qs)
 kept_in_order k f qs =
     filter_like (is_among (filter k qs)) (λ p. is_among qs p && k p) (among_kept k qs) (places_from 0 f)

@@ -1,10 +1,9 @@
 -- A quantified expression that asks for one pair of texts is a general comparison.
-use Rattle.std.proofs.Common.{◌≡◌, ℕ, List, [], ◌∷◌, ◌++◌, map, length, Bool, true, false, Ok, refl, sym, ap, ◌∙◌, subst}
+use Rattle.std.proofs.Common.{◌≡◌, List, [], ◌∷◌, ◌++◌, length, Bool, true, false, Ok, refl, sym, ap, ◌∙◌, subst}
 use Rattle.std.specs.Prelude.{Option}
 use Rattle.std.specs.List.{AllByRecursion}
-use Rattle.std.proofs.lemmas.Simd.{map-map}
 use Rattle.xq_atoms.specs.Atom.{Atomic}
-use Rattle.xq_atoms.specs.Judged.{Judged, ◌>>=◌}
+use Rattle.xq_atoms.specs.Judged.{◌>>=◌}
 use Rattle.xq_atoms.specs.Text.{Text}
 use Rattle.xq_atoms.specs.declared.comparisons.CompOp.{CompOp}
 use Rattle.xq_expressions.specs.declared.operators.Relation.{Relation}
@@ -26,7 +25,7 @@ use Rattle.xq_meaning.specs.Forms
 use Rattle.xq_meaning.specs.Functions.{Focus}
 use Rattle.xq_meaning.specs.Items.{Item, atomized, atom_of}
 use Rattle.xq_meaning.specs.Operators.{operated, related_by, some_with, some_pair, or_rest}
-use Rattle.xq_meaning.specs.PlanMeaning.{Slots, Frame, Meaning, opened, plan_mean}
+use Rattle.xq_meaning.specs.PlanMeaning.{Slots, plan_mean}
 use Rattle.xq_meaning.specs.Same.{frame_of}
 use Rattle.xq_meaning.proofs.PlanEquations as plan_eq
 use Rattle.xq_optimise.specs.declared.held.Held.{Held}

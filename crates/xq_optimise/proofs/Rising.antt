@@ -1,5 +1,5 @@
 -- Two clauses that can't be refused give the same in either order.
-use Rattle.std.proofs.Common.{◌≡◌, ℕ, ◌≤◌, List, [], ◌∷◌, ◌++◌, map, reverse, length, Bool, true, false, Ok, Err, refl, sym, ap, ◌∙◌, subst, ◌⊎◌, inl, inr, arith}
+use Rattle.std.proofs.Common.{◌≡◌, ℕ, ◌≤◌, List, [], ◌∷◌, ◌++◌, map, reverse, length, Bool, true, false, Ok, Err, refl, sym, ap, ◌∙◌, subst, inl, inr, arith}
 use Rattle.std.specs.Prelude.{Option}
 use Rattle.std.specs.List.{AllByRecursion}
 use Rattle.std.proofs.lemmas.List.{append_assoc, append-nil, length-append, reverse-append, reverse-reverse, map-append}
@@ -15,11 +15,11 @@ use Rattle.xq_meaning.specs.declared.plans.Plan.TheVariants as plan
 use Rattle.xq_meaning.specs.declared.plans.PlanClause.{PlanClause}
 use Rattle.xq_meaning.specs.declared.plans.PlanClause.TheVariants as clause
 use Rattle.xq_meaning.specs.Arguments.{effective}
-use Rattle.xq_meaning.specs.Doing.{Doing, Outcome, go_on, give, judged, in_turn, for_each}
+use Rattle.xq_meaning.specs.Doing.{Doing, Outcome, go_on, give, judged, in_turn}
 use Rattle.xq_meaning.specs.Forms
 use Rattle.xq_meaning.specs.Functions.{Focus}
 use Rattle.xq_meaning.specs.Items.{Item, Node}
-use Rattle.xq_meaning.specs.PlanMeaning.{Slots, Frame, Meaning, at_tuple, next_clause, plan_mean, plan_clause_mean}
+use Rattle.xq_meaning.specs.PlanMeaning.{Slots, Frame, at_tuple, next_clause, plan_mean, plan_clause_mean}
 use Rattle.xq_meaning.specs.Same.{frame_of}
 use Rattle.xq_meaning.proofs.PlanEquations as plan_eq
 use Rattle.xq_meaning.proofs.Turns.{go_on_give, in_turn-append}

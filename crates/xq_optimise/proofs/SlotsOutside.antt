@@ -22,7 +22,7 @@ use Rattle.xq_meaning.specs.PlanMeaning.{Slots, Frame, Meaning, next_step, plan_
 use Rattle.xq_meaning.specs.Same.{frame_of}
 use Rattle.xq_meaning.proofs.PlanEquations as plan_eq
 use Rattle.xq_meaning.proofs.SameForms.{AreRelated, then_same, in_turn_same, Same, AllSame, SameOperand, call_same, sequence_same, chain_same, unary_same, conditional_same, map_same, or_same, and_same, filter_same, slash_same, step_same}
-use Rattle.xq_optimise.specs.private.Joins.{ReadsOutside, IsOutside, OperandOutside, StepOutside}
+use Rattle.xq_optimise.specs.private.Joins.{IsOutside, OperandOutside, StepOutside}
 use Rattle.xq_optimise.proofs.Leaving.{Quiet, Leaves, then_leaves, turns_leave, call_quiet, sequence_quiet, or_quiet, and_quiet, if_quiet, unary_quiet, chain_quiet, map_quiet, filter_quiet, step_quiet, slash_leaves, scan_leaves, root_quiet}
 
 value_outside : (n : ℕ) (slots more : Slots) → n < length slots → value_at n (slots ++ more) ≡ value_at n slots

@@ -11,7 +11,6 @@ use Rattle.std.proofs.lemmas.Bool.{false≢true}
 use Rattle.std.proofs.lemmas.Cmp.{int_cmp_total}
 use Rattle.std.proofs.Math.Facts.{yes_ltb}
 use Rattle.std.proofs.lemmas.List.{append_assoc, append-nil, map-append, reverse-append, reverse-reverse}
-use Rattle.xq_atoms.specs.Atom.{Integer}
 use Rattle.xq_atoms.specs.Compare.{holds}
 use Rattle.xq_atoms.specs.Decimal.{in_millionths}
 use Rattle.xq_atoms.specs.Judged.{Judged}
@@ -24,7 +23,7 @@ use Rattle.xq_trees.proofs.Lists.{all_append}
 use Rattle.xq_meaning.specs.declared.node_tests.Test.{Test}
 use Rattle.xq_meaning.specs.declared.plans.Plan.{Plan}
 use Rattle.xq_meaning.specs.declared.plans.Plan.TheVariants as plan
-use Rattle.xq_meaning.specs.Arguments.{boolean, effective}
+use Rattle.xq_meaning.specs.Arguments.{effective}
 use Rattle.xq_meaning.specs.Doing.{Doing, Outcome, go_on, give, judged, in_turn, more}
 use Rattle.xq_meaning.specs.Forms
 use Rattle.xq_meaning.specs.Functions.{Focus}
@@ -35,18 +34,17 @@ use Rattle.xq_meaning.specs.Same.{frame_of}
 use Rattle.xq_meaning.specs.Steps.{focuses_from, context_node, axis_nodes, in_axis_order}
 use Rattle.xq_meaning.proofs.PlanEquations as plan_eq
 use Rattle.xq_meaning.proofs.SameForms.{go_on_same}
-use Rattle.xq_meaning.proofs.Turns.{go_on_give, in_turn-append}
+use Rattle.xq_meaning.proofs.Turns.{in_turn-append}
 use Rattle.xq_optimise.specs.declared.held.Held.{Held}
 use Rattle.xq_optimise.specs.declared.held.Held.TheVariants.{Nodes}
-use Rattle.xq_optimise.specs.declared.predicates.Asks.TheVariants.{First, Position, Nothing}
 use Rattle.xq_optimise.specs.Known.{Fits}
 use Rattle.xq_optimise.specs.Same.{GivesSame}
 use Rattle.xq_optimise.specs.Sure.{on_node, KeepsBy, SurelyDecides, SurelyKeeps, KeepsFirst, SamePredicates}
-use Rattle.xq_optimise.specs.private.Conjuncts.{DoesAsk, as_one, kept_from, AllHold, KeepTrue, Stands, Parted}
+use Rattle.xq_optimise.specs.private.Conjuncts.{as_one, kept_from, AllHold, KeepTrue, Stands, Parted}
 use Rattle.xq_optimise.specs.private.Parts.{GivesHeld, IsHeld, AddsPredicates}
-use Rattle.xq_optimise.specs.private.Positions.{TestsPosition, position_comparison}
+use Rattle.xq_optimise.specs.private.Positions.{TestsPosition}
 use Rattle.xq_optimise.proofs.Forms.{by_form}
-use Rattle.xq_optimise.proofs.Keeping.{true_alike, nothing_told, one_then, one_told, free_behind, first_ahead, none_hold, and_keeps, one_holds, free_after}
+use Rattle.xq_optimise.proofs.Keeping.{true_alike, nothing_told, one_told, free_behind, first_ahead, none_hold, and_keeps, one_holds, free_after}
 use Rattle.xq_optimise.proofs.PositionTests.{answer, position_gives}
 
 -- # Comparisons of the position

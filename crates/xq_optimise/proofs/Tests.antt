@@ -1,6 +1,5 @@
 -- Parts that can't be refused: nodes, texts, and tests of them.
-use Rattle.std.proofs.Common.{◌≡◌, ℕ, List, [], ◌∷◌, map, Bool, true, false, Ok, refl, sym, ap, ◌∙◌, subst}
-use Rattle.std.specs.Prelude.{Option}
+use Rattle.std.proofs.Common.{◌≡◌, List, [], ◌∷◌, map, Bool, true, false, Ok, refl, ap, ◌∙◌}
 use Rattle.std.specs.List.{AllByRecursion}
 use Rattle.xq_atoms.specs.Atom.{Atomic, String, Untyped, Integer, Decimal, Boolean}
 use Rattle.xq_atoms.specs.Compare.{compare_general}
@@ -11,16 +10,15 @@ use Rattle.xq_expressions.specs.declared.operators.Relation.{Relation}
 use Rattle.xq_expressions.specs.declared.operators.ComparisonOperator.TheVariants as comparing
 use Rattle.xq_trees.specs.Tree.{Tree}
 use Rattle.xq_trees.specs.Value.{TypedValue, string, untyped, typed_value}
-use Rattle.xq_meaning.specs.declared.operators.Operator.{Operator}
 use Rattle.xq_meaning.specs.declared.operators.Operator.TheVariants as operator
 use Rattle.xq_meaning.specs.declared.plans.Plan.{Plan}
 use Rattle.xq_meaning.specs.declared.plans.Plan.TheVariants as plan
 use Rattle.xq_meaning.specs.Arguments.{effective, boolean, as_boolean}
 use Rattle.xq_meaning.specs.Doing.{go_on, give, judged, on_trees, in_turn, first_that, unless_found}
 use Rattle.xq_meaning.specs.Forms
-use Rattle.xq_meaning.specs.Items.{Place, Item, Node, atomized, atomic_value, tree_below}
+use Rattle.xq_meaning.specs.Items.{Place, Node, atomized, atomic_value, tree_below}
 use Rattle.xq_meaning.specs.Operators.{some_with, some_pair, or_rest, related_by, operated}
-use Rattle.xq_meaning.specs.PlanMeaning.{Slots, Frame, Meaning, plan_mean}
+use Rattle.xq_meaning.specs.PlanMeaning.{Frame, Meaning, plan_mean}
 use Rattle.xq_meaning.specs.Same.{frame_of}
 use Rattle.xq_meaning.proofs.PlanEquations as plan_eq
 use Rattle.xq_optimise.specs.declared.held.Held.{Held}

@@ -1,24 +1,17 @@
 -- What clauses do at each tuple by itself, and what is returned then.
-use Rattle.std.proofs.Common.{◌≡◌, ℕ, List, [], ◌∷◌, ◌++◌, map, length, Bool, true, false, Ok, Err, ◌⊎◌, inl, inr, refl, sym, ap, ◌∙◌, subst}
-use Rattle.std.specs.Prelude.{Option}
-use Rattle.std.specs.List.{AllByRecursion, flat_map, zip, enumerate_from}
+use Rattle.std.proofs.Common.{◌≡◌, ℕ, List, [], ◌∷◌, ◌++◌, map, Bool, true, false, Ok, Err, ◌⊎◌, inl, inr, refl, sym, ap, ◌∙◌, subst}
+use Rattle.std.specs.List.{AllByRecursion, zip, enumerate_from}
 use Rattle.std.proofs.lemmas.List.{append_assoc, append-nil, map-append}
 use Rattle.std.proofs.lemmas.List.Concat.{flat_map-cons}
 use Rattle.xq_atoms.specs.declared.refusals.Code.{Code}
 use Rattle.xq_atoms.specs.Judged.{Judged}
-use Rattle.xq_atoms.specs.Text.{Text}
 use Rattle.xq_expressions.specs.declared.operators.AllowingEmpty.{AllowingEmpty}
 use Rattle.xq_trees.specs.Tree.{Tree}
 use Rattle.xq_trees.specs.Tuples.{Tuple, item_values, empty_values, with_items, expanded, bound, satisfying}
-use Rattle.xq_meaning.specs.declared.plans.Plan.{Plan}
-use Rattle.xq_meaning.specs.declared.plans.Plan.TheVariants as plan
-use Rattle.xq_meaning.specs.declared.plans.PlanClause.{PlanClause}
 use Rattle.xq_meaning.specs.Doing.{Doing, Outcome, go_on, give, in_turn, one_more, more, for_each, collected}
 use Rattle.xq_meaning.specs.Forms
-use Rattle.xq_meaning.specs.Functions.{Focus}
 use Rattle.xq_meaning.specs.Items.{Item, Atom}
-use Rattle.xq_meaning.specs.PlanMeaning.{Slots, Frame, Meaning, ClauseMeaning, at_tuple, next_clause, plan_mean, plan_clause_mean}
-use Rattle.xq_meaning.proofs.PlanEquations as plan_eq
+use Rattle.xq_meaning.specs.PlanMeaning.{Slots, Frame, Meaning, ClauseMeaning, at_tuple, next_clause}
 use Rattle.xq_meaning.proofs.SameForms.{go_on_same}
 use Rattle.xq_meaning.proofs.Turns.{in_turn-append, last_turn}
 use Rattle.xq_optimise.specs.private.Parts.{AreAll}

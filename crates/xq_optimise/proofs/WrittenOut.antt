@@ -13,14 +13,13 @@ use Rattle.xq_trees.specs.Tuples.{Tuple, satisfying, bound, value_at}
 use Rattle.xq_meaning.specs.declared.joins.JoinKey.{JoinKey}
 use Rattle.xq_meaning.specs.declared.joins.KeyForm.TheVariants as key_form
 use Rattle.xq_meaning.specs.declared.node_tests.Test.{Test}
-use Rattle.xq_meaning.specs.declared.operators.Operator.{Operator}
 use Rattle.xq_meaning.specs.declared.operators.Operator.TheVariants as operator
 use Rattle.xq_meaning.specs.declared.plans.Plan.{Plan}
 use Rattle.xq_meaning.specs.declared.plans.Plan.TheVariants as plan
 use Rattle.xq_meaning.specs.declared.plans.PlanClause.{PlanClause}
 use Rattle.xq_meaning.specs.declared.plans.PlanClause.TheVariants as clause
 use Rattle.xq_meaning.specs.Arguments.{effective}
-use Rattle.xq_meaning.specs.Doing.{Doing, Outcome, go_on, give, judged, in_turn, on_trees}
+use Rattle.xq_meaning.specs.Doing.{Outcome, go_on, give, judged, in_turn, on_trees}
 use Rattle.xq_meaning.specs.Forms
 use Rattle.xq_meaning.specs.Functions.{Focus}
 use Rattle.xq_meaning.specs.Items.{Item, Node}
@@ -39,7 +38,7 @@ use Rattle.xq_optimise.proofs.Below.{comparison_is_test}
 use Rattle.xq_optimise.proofs.Conjuncts.{Tells, test_at, where_told}
 use Rattle.xq_optimise.proofs.Elements.{next_taken}
 use Rattle.xq_optimise.proofs.Fitting.{fits_length, kept_all}
-use Rattle.xq_optimise.proofs.JoinLaws.{slot_is, led, starts}
+use Rattle.xq_optimise.proofs.JoinLaws.{slot_is, starts}
 use Rattle.xq_optimise.proofs.Rising.{value_of, let_told}
 use Rattle.xq_optimise.proofs.Tests.{nodes_are_texts}
 

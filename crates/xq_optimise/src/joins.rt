@@ -41,14 +41,14 @@ fn equality_of(operator: Operator) -> Option<Equality>
 
 /// A comparison of two parts for equality.
 #[derive(Clone, Copy)]
-struct Equal<'a> {
-    equality: Equality,
-    left: &'a Plan,
-    right: &'a Plan,
+pub struct Equal<'a> {
+    pub equality: Equality,
+    pub left: &'a Plan,
+    pub right: &'a Plan,
 }
 
 /// The comparison for equality that the plan is.
-fn as_equal(plan: &Plan) -> Option<Equal<'_>>
+pub fn as_equal(plan: &Plan) -> Option<Equal<'_>>
     ensures { IfSome result (λ it. plan.now ≡ equal_plan it.equality it.left.now it.right.now) }
 {
     let Plan::Chain(first, rest) = plan else {
@@ -66,7 +66,10 @@ fn as_equal(plan: &Plan) -> Option<Equal<'_>>
 }
 
 /// The axis and the test of each step, where all steps are scans.
-fn scans_of(alloc: Global, steps: &[PlanStep]) -> Result<Option<Items<(Axis, Test)>>, AllocError>
+pub fn scans_of(
+    alloc: Global,
+    steps: &[PlanStep],
+) -> Result<Option<Items<(Axis, Test)>>, AllocError>
     ensures { IfOk result (λ found. IfSome found (λ scans. steps.now ≡ map scan_step scans)) }
 {
     let mut scans = Items::new(alloc);
@@ -119,7 +122,7 @@ pub fn slot_key(alloc: Global, form: KeyForm, plan: &Plan) -> Result<Option<Join
 }
 
 /// The key that a plan is: a slot, scans from one, or `string(..)` or `data(..)` of these.
-fn join_key(alloc: Global, plan: &Plan) -> Result<Option<JoinKey>, AllocError>
+pub fn join_key(alloc: Global, plan: &Plan) -> Result<Option<JoinKey>, AllocError>
     ensures { IfOk result (λ found. IfSome found (λ key. IsKey key plan.now)) }
 {
     let Plan::Call(function, parts) = plan else {
@@ -210,6 +213,7 @@ fn width(clause: &PlanClause) -> usize {
         PlanClause::For(_, true, _) => 2,
         PlanClause::For(_, false, _)
         | PlanClause::Join(_, _)
+        | PlanClause::GroupJoin(_, _)
         | PlanClause::Let(_)
         | PlanClause::Count => 1,
         _ => 0,

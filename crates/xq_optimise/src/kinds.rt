@@ -81,7 +81,7 @@ fn ends_in_scan(steps: &[PlanStep]) -> bool
 }
 
 /// Whether a part is a slot of nodes, or ends in a scan.
-fn gives_nodes(known: &[Held], plan: &Plan) -> bool
+pub fn gives_nodes(known: &[Held], plan: &Plan) -> bool
     ensures { result ≡ true → IsHeld known.now Nodes plan.now }
 {
     match plan {

@@ -6,6 +6,9 @@ ghost use Rattle.xq_atoms.specs.declared.refusals.Want.TheVariants.{Memory};
 ghost use Rattle.xq_optimise.specs.Same.{GivesSame};
 ghost use Rattle.xq_optimise.specs.Scans.{KeepsScans};
 
+mod filters;
+mod group_joins;
+mod group_returns;
 mod held;
 mod joins;
 mod kinds;

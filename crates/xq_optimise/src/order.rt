@@ -160,6 +160,7 @@ pub fn follow(known: &mut Vec<Held>, outer: usize, next: &PlanClause) -> Result<
             bind(known, held, *at)
         }
         PlanClause::Join(_, _) => bind(known, Held::Anything, false),
+        PlanClause::GroupJoin(_, _) => bind(known, Held::Anything, false),
         PlanClause::Let(value) => {
             let held = held_by(known, value);
             bind(known, held, false)

@@ -1,9 +1,10 @@
-//! What a FLWOR returns: a conditional whose other branch is `()` is a `where` (XQuery 3.1, sections
-//! 3.12.5 and 3.14).
+//! What a FLWOR returns: a conditional whose other branch is `()` is a `where`, and a group join a
+//! clause (XQuery 3.1, sections 3.12.5, 3.12.9 and 3.14).
 ghost use Rattle.std.specs.Prelude.{◌≡◌, [], ℕ, true, IfOk};
 ghost use Rattle.xq_meaning.specs.declared.plans.Plan.TheVariants as plan_of;
 ghost use Rattle.xq_optimise.specs.private.FlworParts.{MayStand, StandsForFlwor};
 
+use crate::group_returns::with_group;
 use crate::held::Held;
 use crate::outside::reads_outside;
 use crate::sure::is_test;
@@ -49,20 +50,21 @@ fn conditional(
     Ok(Plan::Flwor(list, positive))
 }
 
-/// A FLWOR with these clauses that returns this part, or one that gives the same.
-pub fn with_test_before(
+/// A FLWOR with these clauses that returns this part, or one that gives the same. So many slots are
+/// outside.
+pub fn with_return(
     alloc: Global,
     known: &[Held],
+    outer: usize,
     list: Items<PlanClause>,
     part: Plan,
 ) -> Result<Plan, AllocError>
-    ensures { IfOk result (λ found. (outer : ℕ)
-        → StandsForFlwor outer known.now list part found) }
+    ensures { IfOk result (λ found. StandsForFlwor outer known.now list part found) }
 {
     match part {
         Plan::If(test, positive, negative) => {
             conditional(alloc, known, list, test, positive, negative)
         }
-        other => Ok(Plan::Flwor(list, Boxed::new(alloc, other)?)),
+        other => with_group(alloc, known, outer, list, other),
     }
 }

@@ -16,7 +16,7 @@ use xq_expressions::Quantifier;
 use xq_meaning::Plan;
 
 /// Whether the part is this slot.
-fn is_slot(plan: &Plan, slot: usize) -> bool
+pub fn is_slot(plan: &Plan, slot: usize) -> bool
     ensures { result ≡ true → plan.now ≡ plan_of.Slot slot }
 {
     match plan {

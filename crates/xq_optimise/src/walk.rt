@@ -5,6 +5,7 @@ ghost use Rattle.xq_optimise.specs.Same.{GivesSame};
 ghost use Rattle.xq_optimise.specs.private.FlworParts.{StandsForFlwor};
 ghost use Rattle.xq_optimise.specs.private.Parts as parts;
 
+use crate::group_joins::with_value;
 use crate::held::Held;
 use crate::joins::with_joins;
 use crate::kinds::held_by;
@@ -13,7 +14,7 @@ use crate::nested::goes_on;
 use crate::order::arranged;
 use crate::positions::with_position_first;
 use crate::predicates::{spliced, spliced_after};
-use crate::returns::with_test_before;
+use crate::returns::with_return;
 use crate::scanned;
 use crate::scopes::{bind, forget};
 use crate::some_pairs::quantified;
@@ -278,7 +279,7 @@ fn returned(
         Plan::Flwor(more, last) => nested(alloc, known, outer, list, more, last),
         other => {
             let part = expression(alloc, known, other)?;
-            with_test_before(alloc, known, list, part)
+            with_return(alloc, known, outer, list, part)
         }
     }
 }
@@ -301,7 +302,7 @@ fn nested(
 {
     if !goes_on(alloc, known, outer, more.as_slice(), last.get())? {
         let part = flwor(alloc, known, more, last)?;
-        return Ok(Plan::Flwor(list, Boxed::new(alloc, part)?));
+        return with_return(alloc, known, outer, list, part);
     }
     let more = clauses(alloc, known, outer, more)?;
     let mut whole = list;
@@ -373,10 +374,14 @@ fn clause(
             known.push(Held::Anything)?;
             pushed(found, PlanClause::Join(range, join))
         }
+        PlanClause::GroupJoin(range, join) => {
+            known.push(Held::Anything)?;
+            pushed(found, PlanClause::GroupJoin(range, join))
+        }
         PlanClause::Let(value) => {
             let value = expression(alloc, known, value)?;
             let held = held_by(known, &value);
-            let found = pushed(found, PlanClause::Let(value))?;
+            let found = with_value(alloc, known, outer, found, value)?;
             bind(known, held, false)?;
             Ok(found)
         }

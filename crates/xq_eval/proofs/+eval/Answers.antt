@@ -29,8 +29,8 @@ use Prim.Native.Nat.{max}
 use Rattle.xq_expressions.specs.declared.signatures.Function.{Function}
 use Rattle.xq_meaning.specs.declared.operators.Operator.{Operator}
 use Rattle.xq_meaning.specs.Doing.{◌>>=◌, Outcome, go_on, give, judged, on_trees, collected, in_turn, more, one_more, for_each, first_that}
-use Rattle.xq_meaning.specs.PlanMeaning.{Frame, Meaning, at_carried, flwor, plan_mean, plan_clause_mean, plan_step_mean, at_tuple, next_clause, next_step}
-use Rattle.xq_meaning.proofs.PlanEquations.{plan-Int, plan-Str, plan-Root, plan-Step, plan-Named, plan-Unnamed, plan-Call, plan-Quantified, clause-Group, clause-Order, clause-Refused, clause-Join, step-Scan, plan-Dec, plan-Slot, plan-ContextItem, plan-Sequence, plan-Chain, plan-Unary, plan-If, plan-Or, plan-And, plan-Filter, plan-Path, plan-Flwor, step-Each, clause-For, clause-Let, clause-Where, clause-Count, plan-Arrow, plan-Map}
+use Rattle.xq_meaning.specs.PlanMeaning.{if_equal, equal_items, Frame, Meaning, at_carried, flwor, plan_mean, plan_clause_mean, plan_step_mean, at_tuple, next_clause, next_step}
+use Rattle.xq_meaning.proofs.PlanEquations.{plan-Int, plan-Str, plan-Root, plan-Step, plan-Named, plan-Unnamed, plan-Call, plan-Quantified, clause-Group, clause-Order, clause-Refused, clause-Join, clause-GroupJoin, step-Scan, plan-Dec, plan-Slot, plan-ContextItem, plan-Sequence, plan-Chain, plan-Unary, plan-If, plan-Or, plan-And, plan-Filter, plan-Path, plan-Flwor, step-Each, clause-For, clause-Let, clause-Where, clause-Count, plan-Arrow, plan-Map}
 use Rattle.xq_meaning.proofs.Turns.{begun_then}
 use Rattle.xq_operators.specs.Views.{order_specs, calling, ordering, after_double_slash, parents_below, plant_named, plant_unnamed, tuple_at, tuples_at, lists_of, spot_at, forget, frame_at, TupleIn, TuplesIn, GivesNode, GivesSequence, GivesTuples, FrameIn}
 use Rattle.xq_eval.specs.private.Results.{GivesKey, GivesKeys, GivesLists, GivesTests, GivesPlain}
@@ -45,6 +45,7 @@ use Rattle.xq_trees.specs.declared.items.Item.{Item as Item_held}
 use Rattle.xq_trees.specs.Tree.{Tree}
 use Rattle.xq_joins.proofs.Lists.{all_index}
 use Rattle.xq_eval.specs.private.Joining.{carried_at, first_tuple}
+use Rattle.xq_eval.proofs.GroupLaws.{groups_none, groups_stop, groups_later, groups_found, range_stops, equal_is}
 use Rattle.xq_eval.proofs.JoinLaws.{first_is, no_more, later_of, carried_grown, carried_frame, read_in, join_none, join_steady, join_stops, later_stops, join_later}
 use Rattle.xq_meaning.specs.declared.plans.PlanClause.{PlanClause}
 use Rattle.xq_meaning.specs.declared.plans.PlanClause.TheVariants as clause
@@ -4345,3 +4346,347 @@ pub clauses::later_ranges-returns-clause-gives : goal.clauses::later_ranges-retu
 clauses::later_ranges-returns-clause-gives g t c = λ clean inside tuples_in first_in.
     let old = g.W.TreeSource.forest c.args.world.now in
     turns_end _ _ _ c.loop-index.invariant.turns (ap (map (tuple_at old)) (drop_all c.loop-index.index c.args.tuples.now (omega arith))) clean (inside, tuples_in, first_in)
+
+-- # Group joins
+
+pub clauses::next_tuples-returns-in_ok-bind-in-GroupJoin-clause-gives : goal.clauses::next_tuples-returns-in_ok-bind-in-GroupJoin-clause-gives
+clauses::next_tuples-returns-in_ok-bind-in-GroupJoin-clause-gives g t c = λ clean inside tuples_in.
+    let f = g.W.TreeSource.forest c.args.world.now in
+    let held = c.args.frame in
+    let frame = frame_at f held in
+    let tuples = c.args.tuples in
+    let f' = g.W.TreeSource.forest c.group_lists.new.world in
+    let grows = c.in_ok-lists-in-GroupJoin.ensures.goes.grows in
+    let lists = lists_of c.in_ok-lists-in-GroupJoin.lists in
+    let values = c.in_ok-lists-in-GroupJoin.ensures.gives clean inside tuples_in in
+    let stream : c.in_ok-bind-in-GroupJoin.field-0 ≡ bound tuples lists = c.in_ok-bind-in-GroupJoin.ensures.stream in
+    let same : tuples_at f' c.in_ok-bind-in-GroupJoin.field-0 ≡ bound (tuples_at f tuples) (tuple_at f' lists) =
+    ap (tuples_at f') stream ∙ bound_natural (item_at f') tuples lists ∙ ap (λ ts. bound ts (tuple_at f' lists)) (tuples_grown grows tuples tuples_in) in (
+      subst (TuplesIn f') (sym stream) (bound_in f' tuples lists (tuples_in_grown grows tuples tuples_in) values.0),
+      ap (λ k. plan_clause_mean k frame (tuples_at f tuples) f) c.in-GroupJoin.is ∙ ap (λ m. m frame (tuples_at f tuples) f) (clause-GroupJoin c.in-GroupJoin.range c.in-GroupJoin.join)
+          ∙ ap (λ o. go_on o (λ ls. give (bound (tuples_at f tuples) ls))) values.1 ∙ ap (λ ts. (Ok ts, f')) (sym same),
+    )
+
+pub clauses::next_tuples-returns-in_err-lists-in-GroupJoin-clause-gives : goal.clauses::next_tuples-returns-in_err-lists-in-GroupJoin-clause-gives
+clauses::next_tuples-returns-in_err-lists-in-GroupJoin-clause-gives g t c = λ clean inside tuples_in.
+    let f = g.W.TreeSource.forest c.args.world.now in
+    let held = c.args.frame in
+    let frame = frame_at f held in
+    let tuples = c.args.tuples in
+    let f' = g.W.TreeSource.forest c.group_lists.new.world in
+    let e = c.in_err-lists-in-GroupJoin.field-0.0 in
+    let next = λ (values : List (List Item)). give (bound (tuples_at f tuples) values) in
+    cut lists_of tuple_at TupleIn (λ (ts : List (Tuple ItemView)). ts) tuples_at TuplesIn (plan_clause_mean c.args.clause.now frame (tuples_at f tuples) f) (for_each (equal_items (plan_mean c.in-GroupJoin.range) c.in-GroupJoin.join frame) (tuples_at f tuples) f) next f' e c.from_residual-in_err-lists-in-GroupJoin.result
+    (ap (λ k. plan_clause_mean k frame (tuples_at f tuples) f) c.in-GroupJoin.is ∙ ap (λ m. m frame (tuples_at f tuples) f) (clause-GroupJoin c.in-GroupJoin.range c.in-GroupJoin.join)) c.from_residual-in_err-lists-in-GroupJoin.ensures.1
+    (c.in_err-lists-in-GroupJoin.ensures.gives clean inside tuples_in)
+
+pub clauses::next_tuples-returns-in_err-lists-in-GroupJoin-clause-goes : goal.clauses::next_tuples-returns-in_err-lists-in-GroupJoin-clause-goes
+clauses::next_tuples-returns-in_err-lists-in-GroupJoin-clause-goes g t c = c.in_err-lists-in-GroupJoin.ensures.goes
+
+pub clauses::next_tuples-returns-in_err-bind-in-GroupJoin-clause-goes : goal.clauses::next_tuples-returns-in_err-bind-in-GroupJoin-clause-goes
+clauses::next_tuples-returns-in_err-bind-in-GroupJoin-clause-goes g t c = c.in_ok-lists-in-GroupJoin.ensures.goes
+
+pub clauses::next_tuples-returns-in_ok-bind-in-GroupJoin-clause-goes : goal.clauses::next_tuples-returns-in_ok-bind-in-GroupJoin-clause-goes
+clauses::next_tuples-returns-in_ok-bind-in-GroupJoin-clause-goes g t c = c.in_ok-lists-in-GroupJoin.ensures.goes
+
+pub groups::group_lists-returns-then-len-eq0-clause-goes : goal.groups::group_lists-returns-then-len-eq0-clause-goes
+groups::group_lists-returns-then-len-eq0-clause-goes g t c = stays _ _
+
+pub groups::group_lists-returns-then-len-eq0-clause-gives : goal.groups::group_lists-returns-then-len-eq0-clause-gives
+groups::group_lists-returns-then-len-eq0-clause-gives g t c = λ clean inside tuples_in.
+    groups_none (g.W.TreeSource.forest c.args.world.now) c.args.frame c.args.join.now (plan_mean c.args.range.now) c.args.tuples.now (lists_of c.new.result) (omega arith) (ap (map item_views) c.new.ensures.items)
+
+pub groups::group_lists-returns-in_err-slots-clause-goes : goal.groups::group_lists-returns-in_err-slots-clause-goes
+groups::group_lists-returns-in_err-slots-clause-goes g t c = stays _ _
+
+pub groups::group_lists-returns-in_err-items-clause-goes : goal.groups::group_lists-returns-in_err-items-clause-goes
+groups::group_lists-returns-in_err-items-clause-goes g t c = c.in_err-items.ensures.goes
+
+pub groups::group_lists-returns-in_err-items-clause-gives : goal.groups::group_lists-returns-in_err-items-clause-gives
+groups::group_lists-returns-in_err-items-clause-gives g t c = λ clean inside tuples_in.
+    let f = g.W.TreeSource.forest c.args.world.now in
+    let f' = g.W.TreeSource.forest c.at_tuple.new.world in
+    let held = c.args.frame in
+    let join = c.args.join.now in
+    let range = plan_mean c.args.range.now in
+    let tuples = c.args.tuples.now in
+    let outside = values_of held.slots.now in
+    let e = c.in_err-items.field-0.0 in
+    let here = carried_at join.carried (outside ++ first_tuple tuples) in
+    let first = c.tuple.ensures ∙ first_is tuples in
+    let at : values_of c.deref.result.now ≡ outside ++ here = ap values_of c.deref.ensures.value ∙ c.in_ok-slots.ensures ∙ ap (λ u. outside ++ carried_at join.carried (outside ++ u)) first in
+    let first_in = subst (TupleIn f) (first_is tuples) (all_index (TupleIn f) tuples 0 [] tuples_in (omega arith)) in
+    let here_in = read_in f held join (first_tuple tuples) inside first_in in
+    handed_on lists_of tuple_at TupleIn _ f' e c.from_residual-in_err-items.result c.from_residual-in_err-items.ensures.1
+    (groups_stop f held join range tuples f' e (omega arith) (range_stops f held join range (first_tuple tuples) f' e (c.in_err-items.ensures.gives clean inside here at here_in)))
+
+pub groups::group_lists-returns-in_err-lists-clause-goes : goal.groups::group_lists-returns-in_err-lists-clause-goes
+groups::group_lists-returns-in_err-lists-clause-goes g t c = goes_on_to c.in_ok-items.ensures.goes (same_goes c.steady_groups.ensures.keeps c.steady_groups.ensures.was_clean)
+
+pub groups::group_lists-returns-in-Some-clause-goes : goal.groups::group_lists-returns-in-Some-clause-goes
+groups::group_lists-returns-in-Some-clause-goes g t c = goes_on_to c.in_ok-items.ensures.goes (same_goes c.steady_groups.ensures.keeps c.steady_groups.ensures.was_clean)
+
+pub groups::group_lists-returns-in-Some-clause-gives : goal.groups::group_lists-returns-in-Some-clause-gives
+groups::group_lists-returns-in-Some-clause-gives g t c = λ clean inside tuples_in.
+    let f = g.W.TreeSource.forest c.args.world.now in
+    let f' = g.W.TreeSource.forest c.at_tuple.new.world in
+    let f1 = g.W.TreeSource.forest c.steady_groups.new.world in
+    let held = c.args.frame in
+    let join = c.args.join.now in
+    let range = plan_mean c.args.range.now in
+    let tuples = c.args.tuples.now in
+    let outside = values_of held.slots.now in
+    let here = carried_at join.carried (outside ++ first_tuple tuples) in
+    let first = c.tuple.ensures ∙ first_is tuples in
+    let at : values_of c.deref.result.now ≡ outside ++ here = ap values_of c.deref.ensures.value ∙ c.in_ok-slots.ensures ∙ ap (λ u. outside ++ carried_at join.carried (outside ++ u)) first in
+    let first_in = subst (TupleIn f) (first_is tuples) (all_index (TupleIn f) tuples 0 [] tuples_in (omega arith)) in
+    let here_in = read_in f held join (first_tuple tuples) inside first_in in
+    let grows = c.in_ok-items.ensures.goes.grows in
+    let views = item_views c.in_ok-items.items in
+    let lists = c.in-Some.lists in
+    let d : map item_view c.deref-2.result.now ≡ views = ap (map item_view) c.deref-2.ensures.value in
+    let given = c.in_ok-items.ensures.gives (c.steady_groups.ensures.was_clean clean) inside here at here_in in
+    let before = subst (λ (o : Option (Vec (Vec Item_held))). IfSome o (λ ls. length f' ≡ c.trees-trees.result)) c.in-Some.is c.in_ok-lists.ensures.before in
+    let long : length f' ≡ length f = before ∙ c.trees-trees.ensures in
+    groups_found f held join range views tuples (lists_of lists) f' f1 (no_more f f' grows long) c.steady_groups.ensures.keeps given.1
+    (λ is. subst (λ (o : Option (Vec (Vec Item_held))). IfSome o (λ ls. TupleIn f' (lists_of ls) × (for_each (equal_items range join (frame_at f' held)) (tuples_at f' tuples) f' ≡ (Ok (tuple_at f' (lists_of ls)), f')))) c.in-Some.is
+    (c.in_ok-lists.ensures.lists clean (frame_in_grown grows held inside) (tuples_in_grown grows tuples tuples_in) (subst (AreIn f') (sym d) given.0) range (is ∙ ap (λ xs. (Ok (items_at f' xs), f')) (sym d))))
+
+pub groups::group_lists-returns-in-Some-clause-long : goal.groups::group_lists-returns-in-Some-clause-long
+groups::group_lists-returns-in-Some-clause-long g t c =
+    subst (λ (o : Option (Vec (Vec Item_held))). IfSome o (λ ls. length ls.items ≡ length c.args.tuples.now)) c.in-Some.is c.in_ok-lists.ensures.long
+
+pub groups::group_lists-returns-in_err-first-clause-goes : goal.groups::group_lists-returns-in_err-first-clause-goes
+groups::group_lists-returns-in_err-first-clause-goes g t c = goes_on_to (goes_on_to c.in_ok-items.ensures.goes (same_goes c.steady_groups.ensures.keeps c.steady_groups.ensures.was_clean)) c.in_err-first.ensures.goes
+
+pub groups::group_lists-returns-clause-goes : goal.groups::group_lists-returns-clause-goes
+groups::group_lists-returns-clause-goes g t c = goes_on_to (goes_on_to (goes_on_to c.in_ok-items.ensures.goes (same_goes c.steady_groups.ensures.keeps c.steady_groups.ensures.was_clean)) c.in_ok-first.ensures.goes) c.later_groups.ensures.goes
+
+pub groups::group_lists-returns-in_err-first-clause-gives : goal.groups::group_lists-returns-in_err-first-clause-gives
+groups::group_lists-returns-in_err-first-clause-gives g t c = λ clean inside tuples_in.
+    let f = g.W.TreeSource.forest c.args.world.now in
+    let f' = g.W.TreeSource.forest c.at_tuple.new.world in
+    let f1 = g.W.TreeSource.forest c.steady_groups.new.world in
+    let f2 = g.W.TreeSource.forest c.equal_among.new.world in
+    let held = c.args.frame in
+    let join = c.args.join.now in
+    let range = plan_mean c.args.range.now in
+    let tuples = c.args.tuples.now in
+    let outside = values_of held.slots.now in
+    let here = carried_at join.carried (outside ++ first_tuple tuples) in
+    let first = c.tuple.ensures ∙ first_is tuples in
+    let at : values_of c.deref.result.now ≡ outside ++ here = ap values_of c.deref.ensures.value ∙ c.in_ok-slots.ensures ∙ ap (λ u. outside ++ carried_at join.carried (outside ++ u)) first in
+    let first_in = subst (TupleIn f) (first_is tuples) (all_index (TupleIn f) tuples 0 [] tuples_in (omega arith)) in
+    let here_in = read_in f held join (first_tuple tuples) inside first_in in
+    let grows = c.in_ok-items.ensures.goes.grows in
+    let kept = c.steady_groups.ensures.keeps in
+    let views = item_views c.in_ok-items.items in
+    let ys = map item_view c.deref-3.result.now in
+    let d : ys ≡ views = ap (map item_view) c.deref-3.ensures.value in
+    let u = values_of c.tuple-2.result.now in
+    let second : u ≡ first_tuple tuples = c.tuple-2.ensures ∙ first_is tuples in
+    let e = c.in_err-first.field-0.0 in
+    let clean1 = c.equal_among.ensures.goes.was_clean clean in
+    let given = c.in_ok-items.ensures.gives (c.steady_groups.ensures.was_clean clean1) inside here at here_in in
+    let now_in = subst (TupleIn f1) (sym second) (subst (λ t. TupleIn t (first_tuple tuples)) (sym kept) (tuple_in_grown grows (first_tuple tuples) first_in)) in
+    let items_in = subst (AreIn f1) (sym d) (subst (λ t. AreIn t views) (sym kept) given.0) in
+    let frame_in = subst (λ t. FrameIn t held) (sym kept) (frame_in_grown grows held inside) in
+    handed_on lists_of tuple_at TupleIn _ f2 e c.from_residual-in_err-first.result c.from_residual-in_err-first.ensures.1
+    (groups_stop f held join range tuples f2 e (omega arith)
+    (subst (λ o. GivesSequence o f2 (Err e)) (sym (equal_is f held join range (first_tuple tuples) u views ys f' f1 grows inside first_in given.1 kept d second))
+    (c.in_err-first.ensures.gives clean frame_in now_in items_in)))
+
+pub groups::group_lists-returns-clause-gives : goal.groups::group_lists-returns-clause-gives
+groups::group_lists-returns-clause-gives g t c = λ clean inside tuples_in.
+    let f = g.W.TreeSource.forest c.args.world.now in
+    let f' = g.W.TreeSource.forest c.at_tuple.new.world in
+    let f1 = g.W.TreeSource.forest c.steady_groups.new.world in
+    let f2 = g.W.TreeSource.forest c.equal_among.new.world in
+    let f3 = g.W.TreeSource.forest c.later_groups.new.world in
+    let held = c.args.frame in
+    let join = c.args.join.now in
+    let range = plan_mean c.args.range.now in
+    let tuples = c.args.tuples.now in
+    let outside = values_of held.slots.now in
+    let here = carried_at join.carried (outside ++ first_tuple tuples) in
+    let first = c.tuple.ensures ∙ first_is tuples in
+    let at : values_of c.deref.result.now ≡ outside ++ here = ap values_of c.deref.ensures.value ∙ c.in_ok-slots.ensures ∙ ap (λ u. outside ++ carried_at join.carried (outside ++ u)) first in
+    let first_in = subst (TupleIn f) (first_is tuples) (all_index (TupleIn f) tuples 0 [] tuples_in (omega arith)) in
+    let here_in = read_in f held join (first_tuple tuples) inside first_in in
+    let grows = c.in_ok-items.ensures.goes.grows in
+    let kept = c.steady_groups.ensures.keeps in
+    let views = item_views c.in_ok-items.items in
+    let ys = map item_view c.deref-3.result.now in
+    let d : ys ≡ views = ap (map item_view) c.deref-3.ensures.value in
+    let u = values_of c.tuple-2.result.now in
+    let second : u ≡ first_tuple tuples = c.tuple-2.ensures ∙ first_is tuples in
+    let clean2 = c.later_groups.ensures.goes.was_clean clean in
+    let clean1 = c.equal_among.ensures.goes.was_clean clean2 in
+    let given = c.in_ok-items.ensures.gives (c.steady_groups.ensures.was_clean clean1) inside here at here_in in
+    let now_in = subst (TupleIn f1) (sym second) (subst (λ t. TupleIn t (first_tuple tuples)) (sym kept) (tuple_in_grown grows (first_tuple tuples) first_in)) in
+    let items_in = subst (AreIn f1) (sym d) (subst (λ t. AreIn t views) (sym kept) given.0) in
+    let frame_in = subst (λ t. FrameIn t held) (sym kept) (frame_in_grown grows held inside) in
+    let found = c.in_ok-first.ensures.gives clean2 frame_in now_in items_in in
+    let more = extends_more (extends_more grows (same_goes kept c.steady_groups.ensures.was_clean).grows) c.in_ok-first.ensures.goes.grows in
+    groups_later f held join range tuples (item_views c.in_ok-first.first) f2 f3 c.later_groups.result (omega arith) more inside tuples_in
+    (equal_is f held join range (first_tuple tuples) u views ys f' f1 grows inside first_in given.1 kept d second ∙ found.1)
+    (c.later_groups.ensures.gives clean (frame_in_grown more held inside) (tuples_in_grown more tuples tuples_in) found.0)
+
+pub groups::later_groups-returns-in_err-lists-clause-goes : goal.groups::later_groups-returns-in_err-lists-clause-goes
+groups::later_groups-returns-in_err-lists-clause-goes g t c = stays _ _
+
+pub groups::later_groups-returns-in_err-push-clause-goes : goal.groups::later_groups-returns-in_err-push-clause-goes
+groups::later_groups-returns-in_err-push-clause-goes g t c = stays _ _
+
+pub groups::later_groups-loop-index-init : goal.groups::later_groups-loop-index-init
+groups::later_groups-loop-index-init g t c =
+    let old = g.W.TreeSource.forest c.args.world.now in
+    let held = c.args.frame in
+    let views = item_views c.args.first in
+    let tuples = c.args.tuples.now in
+    let act = one_more (equal_items (plan_mean c.args.range.now) c.args.join.now (frame_at old held)) in
+    let pushed = c.in_ok-push.ensures.items ∙ ap (λ l. l ++ c.args.first ∷ []) c.in_ok-lists.ensures.items in
+    let one : lists_of c.push.new.self ≡ views ∷ [] = ap (map item_views) pushed in
+    record {
+      goes = stays _ _;
+      turns = record {
+        rest = λ clean inside. (
+          subst (TupleIn old) (sym one) (inside.2, tt),
+          ap (λ ls. in_turn act (tuple_at old ls) (map (tuple_at old) (drop 1 tuples)) old) one
+              ∙ ap (λ us. in_turn act (items_at old views ∷ []) us old) (sym (later_of (tuple_at old) tuples)),
+        );
+      };
+      long = ap length pushed;
+    }
+
+pub groups::later_groups-loop-index-preserved : goal.groups::later_groups-loop-index-preserved
+groups::later_groups-loop-index-preserved g t c =
+    let i = c.loop-index.invariant in
+    let old = g.W.TreeSource.forest c.args.world.now in
+    let f = g.W.TreeSource.forest c.loop-index.world in
+    let f' = g.W.TreeSource.forest c.next_group.new.world in
+    let held = c.args.frame in
+    let n = c.loop-index.index in
+    let tuples = c.args.tuples.now in
+    let x = values_of c.tuple.result.now in
+    let lists = tuple_at f (lists_of c.loop-index.lists) in
+    let act = λ (fr : Frame). one_more (equal_items (plan_mean c.args.range.now) c.args.join.now fr) in
+    record {
+      goes = goes_on_to i.goes c.next_group.ensures.goes;
+      turns = turns_next _ _ _ (lists_of c.in_ok-lists-2.lists) (tuple_at old x) _ _ i.turns (left_at (tuple_at old) tuples n x [] (omega arith) c.tuple.ensures) c.next_group.ensures.goes.was_clean
+          (λ clean inside is_in.
+          let x_in = element (TupleIn old) tuples n x [] inside.1 (omega arith) c.tuple.ensures in
+          let s = c.in_ok-lists-2.ensures.gives clean (frame_in_grown i.goes.grows held inside.0) is_in (tuple_in_grown i.goes.grows x x_in) in
+          (s.0, ap (λ fr. act fr lists (tuple_at old x) f) (sym (frame_grown i.goes.grows held inside.0)) ∙ ap (λ y. act (frame_at f held) lists y f) (sym (tuple_grown i.goes.grows x x_in)) ∙ s.1));
+      long = c.in_ok-lists-2.ensures.long ∙ ap suc i.long ∙ sym (add-one n);
+    }
+
+pub groups::later_groups-returns-in_err-lists-2-clause-goes : goal.groups::later_groups-returns-in_err-lists-2-clause-goes
+groups::later_groups-returns-in_err-lists-2-clause-goes g t c = goes_on_to c.loop-index.invariant.goes c.in_err-lists-2.ensures.goes
+
+pub groups::later_groups-returns-in_err-lists-2-clause-gives : goal.groups::later_groups-returns-in_err-lists-2-clause-gives
+groups::later_groups-returns-in_err-lists-2-clause-gives g t c = λ clean inside tuples_in first_in.
+    let i = c.loop-index.invariant in
+    let old = g.W.TreeSource.forest c.args.world.now in
+    let f = g.W.TreeSource.forest c.loop-index.world in
+    let f' = g.W.TreeSource.forest c.next_group.new.world in
+    let held = c.args.frame in
+    let n = c.loop-index.index in
+    let tuples = c.args.tuples.now in
+    let x = values_of c.tuple.result.now in
+    let lists = tuple_at f (lists_of c.loop-index.lists) in
+    let act = λ (fr : Frame). one_more (equal_items (plan_mean c.args.range.now) c.args.join.now fr) in
+    let e = c.in_err-lists-2.field-0.0 in
+    handed_on lists_of tuple_at TupleIn _ f' e c.from_residual-in_err-lists-2.result c.from_residual-in_err-lists-2.ensures.1
+    (turns_stop _ _ _ lists_of tuple_at TupleIn (tuple_at old x) _ f' e i.turns (left_at (tuple_at old) tuples n x [] (omega arith) c.tuple.ensures) c.next_group.ensures.goes.was_clean
+    (λ clean inside is_in.
+    let x_in = element (TupleIn old) tuples n x [] inside.1 (omega arith) c.tuple.ensures in
+    subst (λ fr. GivesLists (act fr lists (tuple_at old x) f) f' (Err e)) (frame_grown i.goes.grows held inside.0)
+    (subst (λ y. GivesLists (act (frame_at f held) lists y f) f' (Err e)) (tuple_grown i.goes.grows x x_in)
+    (c.in_err-lists-2.ensures.gives clean (frame_in_grown i.goes.grows held inside.0) is_in (tuple_in_grown i.goes.grows x x_in)))) clean (inside, tuples_in, first_in))
+
+pub groups::later_groups-returns-clause-goes : goal.groups::later_groups-returns-clause-goes
+groups::later_groups-returns-clause-goes g t c = c.loop-index.invariant.goes
+
+pub groups::later_groups-returns-clause-gives : goal.groups::later_groups-returns-clause-gives
+groups::later_groups-returns-clause-gives g t c = λ clean inside tuples_in first_in.
+    let old = g.W.TreeSource.forest c.args.world.now in
+    turns_end _ _ _ c.loop-index.invariant.turns (ap (map (tuple_at old)) (drop_all c.loop-index.index c.args.tuples.now (omega arith))) clean (inside, tuples_in, first_in)
+
+pub groups::next_group-returns-in_err-slots-clause-goes : goal.groups::next_group-returns-in_err-slots-clause-goes
+groups::next_group-returns-in_err-slots-clause-goes g t c = stays _ _
+
+pub groups::next_group-returns-in_err-items-clause-goes : goal.groups::next_group-returns-in_err-items-clause-goes
+groups::next_group-returns-in_err-items-clause-goes g t c = c.in_err-items.ensures.goes
+
+pub groups::next_group-returns-in_err-found-clause-goes : goal.groups::next_group-returns-in_err-found-clause-goes
+groups::next_group-returns-in_err-found-clause-goes g t c = goes_on_to c.in_ok-items.ensures.goes c.in_err-found.ensures.goes
+
+pub groups::next_group-returns-in_err-push-clause-goes : goal.groups::next_group-returns-in_err-push-clause-goes
+groups::next_group-returns-in_err-push-clause-goes g t c = goes_on_to c.in_ok-items.ensures.goes c.in_ok-found.ensures.goes
+
+pub groups::next_group-returns-clause-goes : goal.groups::next_group-returns-clause-goes
+groups::next_group-returns-clause-goes g t c = goes_on_to c.in_ok-items.ensures.goes c.in_ok-found.ensures.goes
+
+pub groups::next_group-returns-in_err-items-clause-gives : goal.groups::next_group-returns-in_err-items-clause-gives
+groups::next_group-returns-in_err-items-clause-gives g t c = λ clean inside done_in tuple_in.
+    let f = g.W.TreeSource.forest c.args.world.now in
+    let f' = g.W.TreeSource.forest c.at_tuple.new.world in
+    let held = c.args.frame in
+    let join = c.args.join.now in
+    let range = plan_mean c.args.range.now in
+    let tuple = values_of c.args.tuple.now in
+    let outside = values_of held.slots.now in
+    let there = carried_at join.carried (outside ++ tuple) in
+    let at : values_of c.deref.result.now ≡ outside ++ there = ap values_of c.deref.ensures.value ∙ c.in_ok-slots.ensures in
+    let there_in = read_in f held join tuple inside tuple_in in
+    let e = c.in_err-items.field-0.0 in
+    handed_on lists_of tuple_at TupleIn _ f' e c.from_residual-in_err-items.result c.from_residual-in_err-items.ensures.1
+    (go_on_stop item_views items_at AreIn lists_of tuple_at TupleIn (equal_items range join (frame_at f held) (tuple_at f tuple) f) (λ y. give (tuple_at f (lists_of c.args.done) ++ y ∷ [])) f' e
+    (range_stops f held join range tuple f' e (c.in_err-items.ensures.gives clean inside there at there_in)))
+
+pub groups::next_group-returns-in_err-found-clause-gives : goal.groups::next_group-returns-in_err-found-clause-gives
+groups::next_group-returns-in_err-found-clause-gives g t c = λ clean inside done_in tuple_in.
+    let f = g.W.TreeSource.forest c.args.world.now in
+    let f' = g.W.TreeSource.forest c.at_tuple.new.world in
+    let f'' = g.W.TreeSource.forest c.equal_among.new.world in
+    let held = c.args.frame in
+    let join = c.args.join.now in
+    let range = plan_mean c.args.range.now in
+    let tuple = values_of c.args.tuple.now in
+    let outside = values_of held.slots.now in
+    let there = carried_at join.carried (outside ++ tuple) in
+    let at : values_of c.deref.result.now ≡ outside ++ there = ap values_of c.deref.ensures.value ∙ c.in_ok-slots.ensures in
+    let there_in = read_in f held join tuple inside tuple_in in
+    let grows = c.in_ok-items.ensures.goes.grows in
+    let views = item_views c.in_ok-items.items in
+    let ys = map item_view c.deref-2.result.now in
+    let d : ys ≡ views = ap (map item_view) c.deref-2.ensures.value in
+    let e = c.in_err-found.field-0.0 in
+    let given = c.in_ok-items.ensures.gives (c.equal_among.ensures.goes.was_clean clean) inside there at there_in in
+    let is = equal_is f held join range tuple tuple views ys f' f' grows inside tuple_in given.1 refl d refl in
+    handed_on lists_of tuple_at TupleIn _ f'' e c.from_residual-in_err-found.result c.from_residual-in_err-found.ensures.1
+    (go_on_stop item_views items_at AreIn lists_of tuple_at TupleIn (equal_items range join (frame_at f held) (tuple_at f tuple) f) (λ y. give (tuple_at f (lists_of c.args.done) ++ y ∷ [])) f'' e
+    (subst (λ o. GivesSequence o f'' (Err e)) (sym is) (c.in_err-found.ensures.gives clean (frame_in_grown grows held inside) (tuple_in_grown grows tuple tuple_in) (subst (AreIn f') (sym d) given.0))))
+
+pub groups::next_group-returns-clause-gives : goal.groups::next_group-returns-clause-gives
+groups::next_group-returns-clause-gives g t c = λ clean inside done_in tuple_in.
+    let f = g.W.TreeSource.forest c.args.world.now in
+    let f' = g.W.TreeSource.forest c.at_tuple.new.world in
+    let held = c.args.frame in
+    let join = c.args.join.now in
+    let range = plan_mean c.args.range.now in
+    let tuple = values_of c.args.tuple.now in
+    let outside = values_of held.slots.now in
+    let there = carried_at join.carried (outside ++ tuple) in
+    let at : values_of c.deref.result.now ≡ outside ++ there = ap values_of c.deref.ensures.value ∙ c.in_ok-slots.ensures in
+    let there_in = read_in f held join tuple inside tuple_in in
+    let grows = c.in_ok-items.ensures.goes.grows in
+    let views = item_views c.in_ok-items.items in
+    let ys = map item_view c.deref-2.result.now in
+    let d : ys ≡ views = ap (map item_view) c.deref-2.ensures.value in
+    let given = c.in_ok-items.ensures.gives (c.equal_among.ensures.goes.was_clean clean) inside there at there_in in
+    let is = equal_is f held join range tuple tuple views ys f' f' grows inside tuple_in given.1 refl d refl in
+    let found = c.in_ok-found.ensures.gives clean (frame_in_grown grows held inside) (tuple_in_grown grows tuple tuple_in) (subst (AreIn f') (sym d) given.0) in
+    list_next (equal_items range join (frame_at f held)) (lists_of c.args.done) (item_views c.in_ok-found.found) (lists_of c.push.new.self) (tuple_at f tuple) _ _
+    (extends_more grows c.in_ok-found.ensures.goes.grows) done_in (found.0, is ∙ found.1) (ap (map item_views) c.in_ok-push.ensures.items ∙ map-append item_views c.args.done.items (c.in_ok-found.found ∷ []))

@@ -4,7 +4,7 @@ use Rattle.std.specs.List.{AllByRecursion}
 use Rattle.xq_trees.specs.Items.{item_view, item_views}
 use Rattle.xq_meaning.specs.Doing.{in_turn, more, one_more, for_each, collected, first_that}
 use Rattle.xq_meaning.specs.Forms as Forms
-use Rattle.xq_meaning.specs.PlanMeaning.{Meaning, plan_mean, plan_clause_mean, plan_step_mean, at_carried, at_tuple as meant_at, next_clause, next_step}
+use Rattle.xq_meaning.specs.PlanMeaning.{equal_items, Meaning, plan_mean, plan_clause_mean, plan_step_mean, at_carried, at_tuple as meant_at, next_clause, next_step}
 use Rattle.xq_meaning.specs.Functions.{Focus as Spot}
 use Rattle.xq_meaning.specs.Items.{Item}
 use Rattle.xq_meaning.specs.declared.operators.Operator.{Operator}
@@ -130,6 +130,20 @@ invariant-clauses::later_ranges-loop-index g l =
     let first = item_views l.fn.first in
     let clean = g.W.TreeSource.is_clean l.world in
     let act = one_more (λ t. plan_mean l.range (at_carried l.join frame t)) in
+    record {
+      goes : Goes old now (g.W.TreeSource.is_clean l.fn.world) clean;
+      turns : Turns tuple_at TupleIn act (FrameIn old l.frame × TuplesIn old l.tuples × AreIn old first) clean (lists_of l.lists) (map (tuple_at old) (drop l.index l.tuples)) now (in_turn act (items_at old first ∷ []) (drop 1 (tuples_at old l.tuples)) old);
+      long : length l.lists.items ≡ l.index;
+    }
+
+abbrev pub invariant-groups::later_groups-loop-index : goal.invariant-groups::later_groups-loop-index
+invariant-groups::later_groups-loop-index g l =
+    let old = g.W.TreeSource.forest l.fn.world in
+    let now = g.W.TreeSource.forest l.world in
+    let frame = frame_at old l.frame in
+    let first = item_views l.fn.first in
+    let clean = g.W.TreeSource.is_clean l.world in
+    let act = one_more (equal_items (plan_mean l.range) l.join frame) in
     record {
       goes : Goes old now (g.W.TreeSource.is_clean l.fn.world) clean;
       turns : Turns tuple_at TupleIn act (FrameIn old l.frame × TuplesIn old l.tuples × AreIn old first) clean (lists_of l.lists) (map (tuple_at old) (drop l.index l.tuples)) now (in_turn act (items_at old first ∷ []) (drop 1 (tuples_at old l.tuples)) old);
@@ -353,6 +367,15 @@ decreases-clauses::join_tuples g a = 8 * goal.size-clauses::join_tuples g a + 7
 
 abbrev pub decreases-clauses::later_ranges : goal.decreases-clauses::later_ranges
 decreases-clauses::later_ranges g a = 8 * goal.size-clauses::later_ranges g a + 6
+
+abbrev pub decreases-groups::group_lists : goal.decreases-groups::group_lists
+decreases-groups::group_lists g a = 8 * goal.size-groups::group_lists g a + 7
+
+abbrev pub decreases-groups::later_groups : goal.decreases-groups::later_groups
+decreases-groups::later_groups g a = 8 * goal.size-groups::later_groups g a + 6
+
+abbrev pub decreases-groups::next_group : goal.decreases-groups::next_group
+decreases-groups::next_group g a = 8 * goal.size-groups::next_group g a + 5
 
 abbrev pub decreases-clauses::next_tuples : goal.decreases-clauses::next_tuples
 decreases-clauses::next_tuples g a = 8 * goal.size-clauses::next_tuples g a + 7

@@ -1,5 +1,5 @@
 -- What a join is to a `for` and a `where`.
-use Rattle.std.specs.Prelude.{◌≡◌, ◌<◌, ◌⊎◌, ℕ, List, [], ◌∷◌, ◌++◌, map, length, false, Option, Some, None}
+use Rattle.std.specs.Prelude.{◌≡◌, ◌⊎◌, ℕ, List, [], ◌∷◌, ◌++◌, map, length, false, Option, Some, None}
 use Rattle.std.specs.List.{AllByRecursion}
 use Rattle.xq_atoms.specs.Judged.{Judged}
 use Rattle.xq_atoms.specs.Text.{Text}
@@ -21,7 +21,7 @@ use Rattle.xq_meaning.specs.declared.plans.PlanStep.TheVariants as step
 use Rattle.xq_meaning.specs.Doing.{in_turn}
 use Rattle.xq_meaning.specs.Functions.{Focus}
 use Rattle.xq_meaning.specs.Items.{Item}
-use Rattle.xq_meaning.specs.PlanMeaning.{Slots, Frame, carried, comparison, key_mean, keys_equal, next_clause, plan_mean, plan_clause_mean, plan_step_mean}
+use Rattle.xq_meaning.specs.PlanMeaning.{Slots, Frame, comparison, key_mean, keys_equal, next_clause, plan_mean, plan_clause_mean, plan_step_mean}
 use Rattle.xq_meaning.specs.Same.{frame_of}
 use Rattle.xq_optimise.specs.private.Parts.{IsScan}
 

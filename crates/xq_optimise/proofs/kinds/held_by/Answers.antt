@@ -1,4 +1,3 @@
-use Rattle.std.proofs.Common.{refl}
 use Rattle.xq_optimise.proofs.Scans.{anything_held}
 use Rattle.xq_optimise.proofs.kinds.held_by.Goals as goal
 

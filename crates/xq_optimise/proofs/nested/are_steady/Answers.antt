@@ -1,4 +1,4 @@
-use Rattle.std.proofs.Common.{[], refl, arith, subst, take}
+use Rattle.std.proofs.Common.{[], refl, arith, subst}
 use Rattle.std.proofs.lemmas.List.{take_all}
 use Rattle.xq_optimise.proofs.NestedReturns.{Steadily, none_steadily, steadily_next, steadily_steady}
 use Rattle.xq_optimise.specs.private.FlworParts.{IsSteady}

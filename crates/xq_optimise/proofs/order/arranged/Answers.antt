@@ -1,9 +1,8 @@
-use Rattle.std.proofs.Common.{◌++◌, ◌∷◌, [], refl, sym, ap, ◌∙◌, subst, arith}
+use Rattle.std.proofs.Common.{◌++◌, ◌∷◌, [], ap, ◌∙◌, subst, arith}
 use Rattle.xq_meaning.specs.declared.plans.PlanClause.{PlanClause}
 use Rattle.xq_optimise.specs.private.Parts.{SameMany}
 use Rattle.xq_optimise.specs.private.Order.{SameRest}
-use Rattle.xq_optimise.proofs.Loops.{extends_itself, scope_left}
-use Rattle.xq_optimise.proofs.Rising.{none_arranged, clause_arranged, arranged_done}
+use Rattle.xq_optimise.proofs.Rising.{none_arranged, clause_arranged}
 use Rattle.xq_optimise.proofs.order.arranged.Goals as goal
 
 pub loop-next-init : goal.loop-next-init

@@ -2,7 +2,7 @@ use Rattle.std.proofs.Common.{refl, subst}
 use Rattle.std.proofs.lemmas.Result.{on_ok_weaker}
 use Rattle.xq_optimise.specs.private.Parts.{IsHeld}
 use Rattle.xq_optimise.proofs.JoinLaws.{join_itself}
-use Rattle.xq_optimise.proofs.Loops.{extends_bound, extends_itself, extends_more}
+use Rattle.xq_optimise.proofs.GroupJoins.{group_join_itself}
 use Rattle.xq_optimise.proofs.Rising.{for_itself, let_itself, where_itself, order_itself, count_itself, group_itself, refused_itself}
 use Rattle.xq_optimise.proofs.order.follow.Goals as goal
 
@@ -16,6 +16,11 @@ pub returns-in-Join-clause-same : goal.returns-in-Join-clause-same
 returns-in-Join-clause-same c =
     on_ok_weaker c.bind-in-Join.result
     (join_itself c.args.outer c.args.known.now.items c.bind-in-Join.new.known.items c.args.next.now c.in-Join.field-0 c.in-Join.field-1 c.in-Join.is) c.bind-in-Join.ensures
+
+pub returns-in-GroupJoin-clause-same : goal.returns-in-GroupJoin-clause-same
+returns-in-GroupJoin-clause-same c =
+    on_ok_weaker c.bind-in-GroupJoin.result
+    (group_join_itself c.args.outer c.args.known.now.items c.bind-in-GroupJoin.new.known.items c.args.next.now c.in-GroupJoin.field-0 c.in-GroupJoin.field-1 c.in-GroupJoin.is) c.bind-in-GroupJoin.ensures
 
 pub returns-in-Let-clause-same : goal.returns-in-Let-clause-same
 returns-in-Let-clause-same c =

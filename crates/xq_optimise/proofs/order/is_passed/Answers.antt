@@ -1,4 +1,4 @@
-use Rattle.std.proofs.Common.{inl, inr}
+use Rattle.std.proofs.Common.{inr}
 use Rattle.xq_optimise.proofs.order.is_passed.Goals as goal
 
 pub returns-in-Let : goal.returns-in-Let

@@ -1,6 +1,6 @@
-use Rattle.std.proofs.Common.{refl, sym, ap, ◌∙◌, subst, length}
+use Rattle.std.proofs.Common.{refl}
 use Rattle.std.proofs.lemmas.Result.{IfOk-weaker}
-use Rattle.xq_optimise.proofs.Rising.{none_off, one_off, same_rest, test_risen, risen_long, taken_back}
+use Rattle.xq_optimise.proofs.Rising.{none_off, one_off, test_risen, risen_long, taken_back}
 use Rattle.xq_optimise.proofs.order.risen.Goals as goal
 
 pub loop-next-init : goal.loop-next-init

@@ -1,5 +1,4 @@
-use Rattle.std.proofs.Common.{refl, subst, sym}
-use Rattle.xq_optimise.proofs.Splitting.{no_conjuncts, conjunct_next, conjunct_sure, conjuncts_done}
+use Rattle.xq_optimise.proofs.Splitting.{no_conjuncts, conjunct_next}
 use Rattle.xq_optimise.proofs.predicates.parted.Goals as goal
 
 pub loop-part-init : goal.loop-part-init

@@ -1,4 +1,4 @@
-use Rattle.xq_optimise.proofs.Splitting.{no_predicates, predicate_next, predicates_done, same_itself}
+use Rattle.xq_optimise.proofs.Splitting.{predicate_next}
 use Rattle.xq_optimise.proofs.predicates.spliced.Goals as goal
 
 pub loop-next-preserved : goal.loop-next-preserved

@@ -1,4 +1,4 @@
-use Rattle.std.proofs.Common.{◌≡◌, ◌<◌, ◌+◌, ◌*◌, ◌++◌, List, ◌∷◌, [], map, length, take, sym, ap, ◌∙◌, subst, refl, arith, rules}
+use Rattle.std.proofs.Common.{◌≡◌, ◌<◌, ◌+◌, ◌*◌, List, sym, ◌∙◌, subst, refl, arith}
 use Rattle.xq_meaning.specs.declared.plans.Plan.{Plan}
 use Rattle.xq_meaning.specs.declared.plans.Plan.TheVariants as plan
 use Rattle.xq_meaning.specs.declared.plans.PlanClause.{PlanClause}
@@ -10,19 +10,22 @@ use Rattle.std.proofs.lemmas.Result.{IfOk-weaker, on_ok_weaker}
 use Rattle.xq_optimise.specs.declared.held.Held.{Held}
 use Rattle.xq_optimise.specs.Same.{GivesSame}
 use Rattle.xq_optimise.specs.Sure.{SamePredicates}
-use Rattle.xq_optimise.specs.private.Parts.{AreAll, SameOperand, SameCall, SameKey, SameStep, SameClause, SameClauses, SameRanges, IsHeld, Extends, AddsTests}
+use Rattle.xq_optimise.specs.private.Parts.{SameOperand, SameCall, SameKey, SameStep, SameClauses, IsHeld, Extends, AddsTests}
 use Rattle.xq_optimise.proofs.Forms as forms
 use Rattle.xq_optimise.proofs.Forms.{gives_at, known_at, all_known_at, itself, step_itself, each_gives}
 use Rattle.xq_optimise.proofs.Flwor.{flwor_gives}
 use Rattle.xq_optimise.specs.private.FlworParts.{StandsForFlwor, AreSteady}
 use Rattle.xq_optimise.specs.private.Joins.{LeavesTrees}
-use Rattle.xq_optimise.proofs.Conditionals.{flwor_itself, flwor_stands}
+use Rattle.xq_optimise.proofs.Conditionals.{flwor_stands}
 use Rattle.xq_optimise.proofs.Splitting.{step_same_on}
-use Rattle.xq_optimise.proofs.Ranges.{quantified_gives, held_of_same}
+use Rattle.xq_optimise.proofs.Ranges.{quantified_gives}
 use Rattle.xq_optimise.proofs.JoinLaws.{join_adds}
-use Rattle.xq_optimise.proofs.Loops.{left_none, left_next, left_done, left_size, turned_size, no_ranges, range_next, ranges_done, no_clauses, clause_added, clauses_done, for_adds, let_adds, tests_add, order_adds, count_adds, group_adds, refused_adds, adds_at, extends_bound, extends_itself, extends_more, scope_kept, ranges_left}
+use Rattle.xq_optimise.proofs.Loops.{left_next, turned_size, range_next, clause_added, for_adds, tests_add, order_adds, count_adds, group_adds, adds_at, extends_itself, scope_kept, ranges_left}
 use Rattle.xq_optimise.proofs.Elements.{on_ok}
 use Rattle.xq_optimise.proofs.NestedReturns.{returns_alike, nested_stands}
+use Rattle.xq_optimise.proofs.GroupJoins.{group_join_adds}
+use Rattle.xq_optimise.proofs.GroupMatches.{value_adds}
+use Rattle.xq_optimise.specs.private.GroupValues.{AddsValue}
 use Rattle.xq_optimise.proofs.walk.+walk.Goals as goal
 
 pub expression-returns-in_ok-expressions-in-Sequence-clause-same : goal.expression-returns-in_ok-expressions-in-Sequence-clause-same
@@ -224,13 +227,13 @@ returned-returns-in_ok-part-in_default t c =
     let is : c.args.part ≡ other = sym c.into_inner.ensures in
     record {
       stands =
-          IfOk-weaker c.with_test_before.result _ _
+          IfOk-weaker c.with_return.result _ _
           (λ found h. subst (λ (p : Plan). StandsForFlwor c.args.outer known list p found) (sym is)
           (returns_alike c.args.outer known list other part found c.in_ok-part-in_default.ensures.same
-          (subst (λ (k : List Held). StandsForFlwor c.args.outer k list part found) (c.deref.ensures.value ∙ c.in_ok-part-in_default.ensures.kept) (h c.args.outer))))
-          c.with_test_before.ensures;
+          (subst (λ (k : List Held). StandsForFlwor c.args.outer k list part found) (c.deref.ensures.value ∙ c.in_ok-part-in_default.ensures.kept) h)))
+          c.with_return.ensures;
       outer =
-          on_ok c.with_test_before.result
+          on_ok c.with_return.result
           (subst (Extends c.args.outer known) (sym c.in_ok-part-in_default.ensures.kept) (extends_itself c.args.outer known c.requires));
     }
 
@@ -238,8 +241,10 @@ pub nested-returns-then-not-branch-clause-stands : goal.nested-returns-then-not-
 nested-returns-then-not-branch-clause-stands t c =
     let known = c.args.known.now.items in
     let part = c.in_ok-part.part in
-    returns_alike c.args.outer known c.args.list (plan.Flwor c.args.more c.args.last) part _ c.in_ok-part.ensures.same
-    (flwor_itself c.args.outer known c.args.list part c.in_ok-new.field-0 _ (sym c.in_ok-new.ensures) (ap (λ l. plan.Flwor l c.in_ok-new.field-0) c.list.view_is))
+    IfOk-weaker c.with_return.result _ _
+    (λ found h. returns_alike c.args.outer known c.args.list (plan.Flwor c.args.more c.args.last) part found c.in_ok-part.ensures.same
+    (subst (λ (k : List Held). StandsForFlwor c.args.outer k c.args.list part found) (c.deref-then-not-branch.ensures.value ∙ c.in_ok-part.ensures.kept) h))
+    c.with_return.ensures
 
 pub nested-returns-clause-stands : goal.nested-returns-clause-stands
 nested-returns-clause-stands t c =
@@ -275,10 +280,13 @@ clause-returns-in_ok-bind-in-For-clause-same t c =
 
 pub clause-returns-in_ok-bind-in-Let-clause-same : goal.clause-returns-in_ok-bind-in-Let-clause-same
 clause-returns-in_ok-bind-in-Let-clause-same t c =
-    adds_at c.args.outer c.args.known.now.items c.args.next (clause.Let c.in-Let.value) c.args.found c.in_ok-found-in-Let.found c.bind-in-Let.new.known.items c.in-Let.is
-    (let_adds c.args.outer c.args.known.now.items c.expression-in-Let.new.known.items c.bind-in-Let.new.known.items c.in-Let.value c.in_ok-value-in-Let.value c.args.found c.in_ok-found-in-Let.found
+    let value = c.in_ok-value-in-Let.value in
+    let found = c.in_ok-found-in-Let.found in
+    adds_at c.args.outer c.args.known.now.items c.args.next (clause.Let c.in-Let.value) c.args.found found c.bind-in-Let.new.known.items c.in-Let.is
+    (value_adds c.args.outer c.args.known.now.items c.expression-in-Let.new.known.items c.bind-in-Let.new.known.items c.in-Let.value value c.args.found found
     c.in_ok-value-in-Let.ensures.same c.in_ok-value-in-Let.ensures.kept c.held_by-held-in-Let.result
-    (subst (λ k. IsHeld k c.held_by-held-in-Let.result c.in_ok-value-in-Let.value) c.deref-in-Let.ensures.value c.held_by-held-in-Let.ensures) c.in_ok-bind-in-Let.ensures c.in_ok-found-in-Let.ensures)
+    (subst (λ k. IsHeld k c.held_by-held-in-Let.result value) c.deref-in-Let.ensures.value c.held_by-held-in-Let.ensures) c.in_ok-bind-in-Let.ensures
+    (subst (λ (k : List Held). AddsValue c.args.outer k value c.args.found found) c.deref-in-Let-2.ensures.value c.in_ok-found-in-Let.ensures))
 
 pub clause-returns-in_ok-test-in-Where-clause-same : goal.clause-returns-in_ok-test-in-Where-clause-same
 clause-returns-in_ok-test-in-Where-clause-same t c =
@@ -310,6 +318,13 @@ clause-returns-in_ok-push-in-Join-clause-same t c =
     (λ after h. adds_at c.args.outer c.args.known.now.items c.args.next (clause.Join c.in-Join.range c.in-Join.join) c.args.found after c.push.new.self.items c.in-Join.is
     (join_adds c.args.outer c.args.known.now.items c.push.new.self.items c.in-Join.range c.in-Join.join c.args.found after c.in_ok-push-in-Join.ensures.items h))
     c.pushed-in-Join.ensures
+
+pub clause-returns-in_ok-push-in-GroupJoin-clause-same : goal.clause-returns-in_ok-push-in-GroupJoin-clause-same
+clause-returns-in_ok-push-in-GroupJoin-clause-same t c =
+    IfOk-weaker c.pushed-in-GroupJoin.result _ _
+    (λ after h. adds_at c.args.outer c.args.known.now.items c.args.next (clause.GroupJoin c.in-GroupJoin.range c.in-GroupJoin.join) c.args.found after c.push-in-GroupJoin.new.self.items c.in-GroupJoin.is
+    (group_join_adds c.args.outer c.args.known.now.items c.push-in-GroupJoin.new.self.items c.in-GroupJoin.range c.in-GroupJoin.join c.args.found after c.in_ok-push-in-GroupJoin.ensures.items h))
+    c.pushed-in-GroupJoin.ensures
 
 pub clause-returns-in_ok-push-in-Count-clause-same : goal.clause-returns-in_ok-push-in-Count-clause-same
 clause-returns-in_ok-push-in-Count-clause-same t c =

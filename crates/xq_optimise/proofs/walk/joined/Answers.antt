@@ -1,7 +1,7 @@
-use Rattle.std.proofs.Common.{◌≡◌, length, subst, refl, ◌∙◌}
+use Rattle.std.proofs.Common.{length, subst, ◌∙◌}
 use Rattle.xq_meaning.specs.declared.plans.Plan.TheVariants as plan
 use Rattle.xq_optimise.specs.private.Joins.{SameList}
-use Rattle.xq_optimise.proofs.Forms.{gives_at, itself}
+use Rattle.xq_optimise.proofs.Forms.{gives_at}
 use Rattle.xq_optimise.proofs.JoinLaws.{turns_then}
 use Rattle.xq_optimise.proofs.Rising.{flwor_sorted}
 use Rattle.xq_optimise.proofs.walk.joined.Goals as goal

@@ -1,4 +1,3 @@
-use Rattle.std.proofs.Common.{refl}
 use Rattle.xq_meaning.specs.declared.plans.Plan.{Plan}
 use Rattle.xq_optimise.specs.private.Joins.{StartsAt}
 use Rattle.xq_optimise.specs.private.Order.{SameAfter, Continues}
