@@ -14,7 +14,9 @@ from collections.abc import Iterable, Iterator, Mapping
 TOKEN = re.compile(r'[()]|"(?:[^"]|"")*"|[^\s()"]+')
 INDENT = "  "
 # The clauses and parts that bind, with how many slots they open.
-OPENED = {"for": 1, "join": 1, "let": 1, "count": 1, "in": 1}
+OPENED = {"for": 1, "join": 1, "group-join": 1, "let": 1, "count": 1, "in": 1}
+# The clauses that have a range and keys.
+JOINS = ("join", "group-join")
 # The forms in which a part is seen by those after it.
 BINDING = ("flwor", "quantified")
 
@@ -92,12 +94,12 @@ def variables(form: Form, slots: int) -> list[str]:
 
 
 def joined(form: Form, slots: int, outer: int) -> str:
-    """The line of a join."""
+    """The line of a join, or of a group join."""
     carried = next((it.words[0] for it in form.parts if it.word == "carried"), None)
     carrying = f" carrying ${carried}" if carried else ""
     renamed = f" as ${outer}" if carried not in (None, f"{outer}") else ""
     where = f" {form.words[0]} ".join(key(it) for it in form.parts if it.word == "key")
-    return f"join ${slots} in ..{carrying}{renamed} where {where}"
+    return f"{form.word.replace('-', ' ')} ${slots} in ..{carrying}{renamed} where {where}"
 
 
 def bound(form: Form, slots: int) -> str:
@@ -113,7 +115,7 @@ def bound(form: Form, slots: int) -> str:
 def line(form: Form, slots: int, outer: int) -> str:
     """What stands in the line of a form, where so many slots are open, and so many were before its
     FLWOR expression."""
-    if form.word == "join":
+    if form.word in JOINS:
         return joined(form, slots, outer)
     if form.word in OPENED:
         return bound(form, slots)
@@ -132,7 +134,7 @@ def below(form: Form) -> tuple[Form, ...]:
     """The forms that have lines of their own below that of the form."""
     if form.word in ("step", "scan"):
         return form.parts[1:]
-    return form.parts[:1] if form.word == "join" else form.parts
+    return form.parts[:1] if form.word in JOINS else form.parts
 
 
 @dataclasses.dataclass(frozen=True)
@@ -147,7 +149,7 @@ class Layout:
         of_parts = list(self.lines_below(form, slots, outer))
         of_form = self.marks.get(form, ())
         head, mark = line(form, slots, outer), f"   <- {', '.join(of_form)}" if of_form else ""
-        if len(of_parts) == 1 and len(of_parts[0]) == 1 and form.word != "join":
+        if len(of_parts) == 1 and len(of_parts[0]) == 1 and form.word not in JOINS:
             return [f"{head} {of_parts[0][0]}{mark}"]
         return [head + mark, *(INDENT + it for lines in of_parts for it in lines)]
 
@@ -155,7 +157,7 @@ class Layout:
         """The lines of each part."""
         inner = slots
         for part in below(form):
-            if form.word == "join":
+            if form.word in JOINS:
                 carries = any(it.word == "carried" for it in form.parts)
                 yield self.lines(part, outer + carries)
             elif form.word in BINDING:

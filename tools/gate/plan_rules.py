@@ -8,11 +8,15 @@ names the rule. RULES has them by the names of their files in crates/xq_optimise
 from __future__ import annotations
 
 import collections
-from collections.abc import Callable, Iterable, Sequence
+import itertools
+from collections.abc import Callable, Iterable, Iterator, Sequence
 
 from tools.gate.plan_forms import Form
 
 RULES = {
+    "filters": "a predicate that compares a key of each item is a group join",
+    "group_joins": "a `let` of what a join keeps of its range is a group join",
+    "group_returns": "a group join that is returned or counted is a clause",
     "joins": "a `for` and the `where` after it are a `join`",
     "nested": "a FLWOR goes on with the clauses of one that it returns",
     "order": "an equality stands before clauses that it doesn't need",
@@ -36,6 +40,8 @@ def derived(before: Form, after: Form) -> Marks | None:
         return found
     if before.word == "quantified" and after.word == "chain":
         return of_some(before, after)
+    if before.word == "let" and after.word == "group-join":
+        return of_group(before.parts[0], after)
     if before.word != after.word:
         return None
     found = by_parts(before, after)
@@ -219,6 +225,37 @@ def written_out(join: Form) -> tuple[Form, Form]:
     return Form("for", (), (range_,)), Form("where", (), (test,))
 
 
+def focus_parts(key: Form) -> list[Form]:
+    """The parts of a predicate that a key of the item in focus may stand for."""
+    if not key.parts:
+        return [Form("context-item")]
+    first, *more = key.parts
+    step = Form("step", first.words, first.parts)
+    return [Form("path", (), (step, *more)) if more else step,
+            Form("path", (), (Form("context-item"), *key.parts))]
+
+
+def stood_for(group: Form) -> Iterator[tuple[str, Form]]:
+    """The values of a `let` that a group join may stand for, each with its rule."""
+    range_, *keys = group.parts
+    slot = max((it.words[1] for it in keys), key=int)
+    returned = Form("return", (), (Form("slot", (slot,)),))
+    yield "group_joins", Form("flwor", (), (Form("join", group.words, group.parts), returned))
+    sides = [focus_parts(it) if it.words[1] == slot else [key_plan(it)] for it in keys]
+    for left, right in itertools.product(*sides):
+        test = Form("chain", (), (left, Form("operand", group.words, (right,))))
+        yield "filters", Form("filter", (), (range_, test))
+
+
+def of_group(value: Form, group: Form) -> Marks | None:
+    """The rules where a group join stands for a `let` of a value."""
+    for rule, form in stood_for(group):
+        found = derived(value, form)
+        if found is not None:
+            return [(group, it) for it in (rule, *(name for _, name in found))]
+    return None
+
+
 def of_some(before: Form, after: Form) -> Marks | None:
     """The rule that makes a general comparison of a quantified expression with one variable."""
     ranges, test = before.parts[:-1], before.parts[-1].parts[0]
@@ -289,6 +326,27 @@ def of_clauses(before: Sequence[Form], after: Sequence[Form]) -> Marks | None:
 
 def of_flwor(before: Form, after: Form) -> Marks | None:
     """The rules in a FLWOR expression."""
+    found = of_parts(before, after)
+    return of_returned_group(before, after) if found is None else found
+
+
+def of_returned_group(before: Form, after: Form) -> Marks | None:
+    """The rules where the last clause is a group join that was returned, or counted."""
+    group, last = after.parts[-2:]
+    old, new = before.parts[-1].parts[0], last.parts[0]
+    if group.word != "group-join":
+        return None
+    if new.word == "call":
+        if (old.word, old.words, len(old.parts)) != (new.word, new.words, 1):
+            return None
+        old = old.parts[0]
+    bound = (*before.parts[:-1], Form("let", (), (old,)), last)
+    found = of_parts(Form("flwor", before.words, bound), after)
+    return None if found is None else [*found, (group, "group_returns")]
+
+
+def of_parts(before: Form, after: Form) -> Marks | None:
+    """The rules in the clauses of a FLWOR expression, and in what it returns."""
     clauses, of_join = list[Form](), dict[Form, Form]()
     for clause in after.parts[:-1]:
         written = written_out(clause) if clause.word == "join" else (clause,)

@@ -52,6 +52,10 @@ RANGE = f"(for {path(0, B)})"
 JOIN = f"(join = {path(0, B)} (carried 0) (key value 1 (scan {ID})) (key value 0 (scan {ID})))"
 TEST = f'(chain (step {ID}) (operand = (string "1")))'
 LAST = "(return (slot 1))"
+GROUP = f"(group-join = (slot 9) (key value 1 (scan {ID})) (key value 0 (scan {ID})))"
+OF_CHILD = f"(group-join = (slot 9) (key value 1 (scan {B})) (key value 0 (scan {ID})))"
+KEPT = f"(filter (slot 9) (chain (step {B}) (operand = {path(0, ID)})))"
+OF_LIST = f"(flwor (for (slot 9)) (where {EQUAL}) {LAST})"
 # What a form becomes, and the rules that make it so.
 DERIVED = (
     ("(chain (integer 2) (operand gt (call position)))",
@@ -74,11 +78,24 @@ DERIVED = (
     (f"(flwor {RANGE} {RANGE} (let {path(1, ID)}) (where {READS}) {LAST})",
      f"(flwor {RANGE} {JOIN} (let {path(1, ID)}) {LAST})", ["joins", "order", "written"]),
     (f"(quantified some (in {path(1, ID)}) (satisfies {READS}))", EQUAL, ["some_pairs"]),
+    (f"(flwor {RANGE} (let {OF_LIST}) {LAST})", f"(flwor {RANGE} {GROUP} {LAST})",
+     ["group_joins", "joins"]),
+    (f"(flwor {RANGE} (let {KEPT}) {LAST})", f"(flwor {RANGE} {OF_CHILD} {LAST})", ["filters"]),
+    (f"(flwor {RANGE} (return {KEPT}))", f"(flwor {RANGE} {OF_CHILD} {LAST})",
+     ["filters", "group_returns"]),
+    (f"(flwor {RANGE} (return (call count {OF_LIST})))",
+     f"(flwor {RANGE} {GROUP} (return (call count (slot 1))))",
+     ["group_joins", "group_returns", "joins"]),
 )
 # Of each rule a query to which it applies.
 QUERIES = {
+    "filters": 'for $a in doc("x")//a let $m := doc("x")/r/b[c = $a/c] return $m',
+    "group_joins": 'for $a in doc("x")//a let $m := for $b in doc("x")//b where $b/c = $a/c'
+                   ' return $b return $m',
+    "group_returns": 'for $a in doc("x")//a return count(for $b in doc("x")//b'
+                     ' where $b/c = $a/c return $b)',
     "joins": 'for $a in doc("x")//a, $b in doc("x")//b where $b/@id = $a/@id return $b',
-    "nested": 'for $a in doc("x")//a return for $b in $a/b return $b',
+    "nested": 'for $a in doc("x")//a return for $b in doc("x")//b where $b/@id = $a/@id return $b',
     "order": 'for $a in doc("x")//a let $c := $a/c where $c where $a/@id = "1" return $a',
     "positions": 'doc("x")/a[3 eq position()]',
     "predicates": 'doc("x")/a[b and position() < 3]',
@@ -110,6 +127,14 @@ def queries(name: str) -> Iterator[bytes]:
         yield from (it.body for it in group.rows if it.kind == b"Q")
 
 
+GROUP_LINES = """\
+flwor
+  for $0 in slot 9
+  group join $1 in .. where $1/@id = $0/@id
+    slot 8
+  return slot 1"""
+
+
 class Forms(unittest.TestCase):
     def test_what_is_read_is_spelled_again(self) -> None:
         for text in (text for before, after, _ in DERIVED for text in (before, after)):
@@ -124,6 +149,12 @@ class Forms(unittest.TestCase):
         plan_of_flwor = form(FORM)
         layout = Layout({plan_of_flwor.parts[1]: ["joins"]})
         self.assertEqual("\n".join(layout.lines(plan_of_flwor, 5)), LINES)
+
+    def test_a_group_join_opens_a_slot(self) -> None:
+        joined = JOIN.replace("(join", "(group-join").replace("(carried 0) ", "")
+        joined = joined.replace(path(0, B), "(slot 8)")
+        shown = form(f"(flwor (for (slot 9)) {joined} {LAST})")
+        self.assertEqual("\n".join(Layout().lines(shown)), GROUP_LINES)
 
     def test_tests_of_kinds_and_names(self) -> None:
         for axis, text, shown in (

@@ -25,6 +25,7 @@ FULL = Row(b"S", tables.store_body(
 A_MEGABYTE = ("--kept", "1")
 ROUND = ("first", "path", "tuple", "number", "content", "node", "function", "static")
 DOCUMENTS, STEPS = 300, 1_500
+COUNTED = 60
 # A document by the numbers of its nodes, and the one that replaces it: runs of numbers, each up to,
 # and without, the second. Those of more than 1,000 rows are read in two parts.
 Runs = Sequence[tuple[int, int]]
@@ -151,6 +152,51 @@ class Model:
                 yield self.listed()
 
 
+class Counted:
+    """Documents of 900 elements with three names, more than a megabyte keeps: how many of each name
+    a document has changes as it is stored again."""
+
+    names = ("a", "b", "c")
+
+    def __init__(self) -> None:
+        self.counts: dict[str, tuple[int, int, int]] = {}
+
+    def put(self, number: int, turn: int) -> Row:
+        """Stores a document, another one in each turn."""
+        address, few = f"d{number:03}", 100 + (number * 7 + turn * 31) % 200
+        text = b"replaced" if address in self.counts else b"stored"
+        self.counts[address] = counts = (few, 300, 500 - few)
+        parts = ", ".join(f"for $i in 1 to {count} return element {name} {{$i}}"
+                          for name, count in zip(self.names, counts))
+        return Row(b"S", stored(f"document {{element r {{{parts}}}}}", address).body, 0, text)
+
+    def drop(self, number: int) -> Row:
+        """Drops a document."""
+        del self.counts[f"d{number:03}"]
+        return Row(b"D", b"d%03d" % number, 0, b"dropped")
+
+    def asked(self, among: Sequence[int]) -> Iterator[Row]:
+        """Counts by each name, over all and over some of the documents."""
+        for place, name in enumerate((*self.names, "absent")):
+            counts = {address: (*found, 0)[place] for address, found in self.counts.items()}
+            yield Row(b"Q", f"count(collection()//{name})".encode(), 0,
+                      str(sum(counts.values())).encode())
+            for address in (f"d{number:03}" for number in among):
+                yield Row(b"Q", f'count(doc("{address}")//{name})'.encode(), 0,
+                          str(counts[address]).encode())
+
+    def rows(self) -> Iterator[Row]:
+        """Stores and counts, turn by turn: what was counted is stored again, and one is dropped."""
+        yield from (self.put(number, 0) for number in range(COUNTED))
+        for turn in range(1, 4):
+            yield from self.asked((turn, 20, COUNTED - 1))
+            yield from self.asked((turn, 20, COUNTED - 1))
+            yield from (self.put(number, turn) for number in (turn, 20, COUNTED - 1))
+            yield self.drop(turn + 30)
+            yield self.put(COUNTED + turn, turn)
+            yield from self.asked((turn, 20, COUNTED + turn))
+
+
 def wide_and_deep(children: int, depth: int) -> list[int]:
     """A root with so many children, and so many nested nodes in each tenth of them.
 
@@ -206,6 +252,11 @@ class ManyTest(unittest.TestCase):
 
     def test_many_documents_are_those_of_the_model(self) -> None:
         self.check([*Model().rows()])
+
+    def test_counts_by_name_are_those_of_the_model_whatever_is_forgotten(self) -> None:
+        for words in (A_MEGABYTE, ()):
+            with self.subTest(words):
+                self.check([*Counted().rows()], words)
 
     def test_fifty_rounds(self) -> None:
         rows = [row for group in tables.groups("worked.toml") if group.name in ROUND
