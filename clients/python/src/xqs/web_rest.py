@@ -107,12 +107,11 @@ class Rest:
 
     def application(self) -> web.Application:
         """The application, with its routes and its guard."""
-        @web.middleware
         async def guard(request: web.Request, handler: Handler) -> web.StreamResponse:
             with at_work(request):
                 return await self._guarded(request, handler)
 
-        application = web.Application(middlewares=[guard])
+        application = web.Application(middlewares=[web.middleware(guard)])
         application.add_routes([
             web.get("/", self.get_page),
             web.get("/page/{name}", self.get_page),
