@@ -18,6 +18,7 @@ RULES = {
     "group_joins": "a `let` of what a join keeps of its range is a group join",
     "group_returns": "a group join that is returned or counted is a clause",
     "joins": "a `for` and the `where` after it are a `join`",
+    "narrow": "a `where` that compares with a text is a predicate of the `for` before it",
     "nested": "a FLWOR goes on with the clauses of one that it returns",
     "order": "an equality stands before clauses that it doesn't need",
     "positions": "`position()` stands first in a general comparison with a number",
@@ -235,6 +236,43 @@ def focus_parts(key: Form) -> list[Form]:
             Form("path", (), (Form("context-item"), *key.parts))]
 
 
+def with_predicate(path: Form, test: Form) -> Form:
+    """The path whose last scan is a step with this predicate."""
+    *others, scan = path.parts
+    step = Form("step", scan.words, (*scan.parts, test))
+    return Form("path", (), (*others, Form("each", (), (step,))))
+
+
+def focused(side: Form) -> list[Form]:
+    """The parts of a predicate that one side of a test of a variable may stand for."""
+    if side.word == "slot":
+        return focus_parts(Form("key"))
+    if side.word == "path" and side.parts[0].word == "slot":
+        return focus_parts(Form("key", (), side.parts[1:]))
+    return [side]
+
+
+def is_narrowed(test: Form, predicate: Form) -> bool:
+    """Whether a predicate is a test of a variable, of the item in focus."""
+    if not test.word == predicate.word == "chain" or len(test.parts) != 2:
+        return False
+    (old, operand), (new, other) = test.parts, predicate.parts
+    return operand.words == other.words and new in focused(old) and (
+        other.parts[0] in focused(operand.parts[0]))
+
+
+def narrowed_out(clause: Form, olds: Sequence[Form]) -> tuple[Form, ...]:
+    """The `for` and the `where` that a `for` over a filter stands for, or the clause itself."""
+    if clause.word != "for" or clause.parts[0].word != "filter":
+        return (clause,)
+    start, *predicates = clause.parts[0].parts
+    tests = [it for it in olds if it.word == "where" and is_narrowed(it.parts[0], predicates[-1])]
+    if not tests:
+        return (clause,)
+    left = Form("filter", (), (start, *predicates[:-1])) if predicates[:-1] else start
+    return Form("for", clause.words, (left, *clause.parts[1:])), tests[0]
+
+
 def stood_for(group: Form) -> Iterator[tuple[str, Form]]:
     """The values of a `let` that a group join may stand for, each with its rule."""
     range_, *keys = group.parts
@@ -245,6 +283,8 @@ def stood_for(group: Form) -> Iterator[tuple[str, Form]]:
     for left, right in itertools.product(*sides):
         test = Form("chain", (), (left, Form("operand", group.words, (right,))))
         yield "filters", Form("filter", (), (range_, test))
+        if range_.word == "path" and range_.parts[-1].word == "scan":
+            yield "filters", with_predicate(range_, test)
 
 
 def of_group(value: Form, group: Form) -> Marks | None:
@@ -347,11 +387,6 @@ def of_returned_group(before: Form, after: Form) -> Marks | None:
 
 def of_parts(before: Form, after: Form) -> Marks | None:
     """The rules in the clauses of a FLWOR expression, and in what it returns."""
-    clauses, of_join = list[Form](), dict[Form, Form]()
-    for clause in after.parts[:-1]:
-        written = written_out(clause) if clause.word == "join" else (clause,)
-        clauses += written
-        of_join |= dict.fromkeys(written, clause) if clause.word == "join" else {}
     olds, returned = before.parts[:-1], before.parts[-1].parts[0]
     is_nested = returned.word == "flwor" and after.parts[-1].parts[0].word != "flwor"
     if is_nested:
@@ -360,6 +395,13 @@ def of_parts(before: Form, after: Form) -> Marks | None:
     if is_where:
         olds = (*olds, Form("where", (), returned.parts[:1]))
         returned = returned.parts[1].parts[0]
+    clauses, of_join = list[Form](), dict[Form, Form]()
+    narrowed = list[Form]()
+    for clause in after.parts[:-1]:
+        written = written_out(clause) if clause.word == "join" else narrowed_out(clause, olds)
+        clauses += written
+        of_join |= dict.fromkeys(written, clause) if len(written) > 1 else {}
+        narrowed += [clause] if clause.word == "for" and len(written) > 1 else []
     found = of_clauses(olds, clauses)
     result = derived(returned, after.parts[-1].parts[0])
     if found is None or result is None:
@@ -368,8 +410,9 @@ def of_parts(before: Form, after: Form) -> Marks | None:
         found += [(it, "returns") for it in [it for it in clauses if it.word == "where"][-1:]]
     if is_nested:
         found.append((after, "nested"))
-    joins = [(it, "joins") for it in dict.fromkeys(of_join.values())]
-    return [*((of_join.get(it, it), rule) for it, rule in found), *joins, *result]
+    whole = [(it, "narrow" if it in narrowed else "joins") for it in dict.fromkeys(
+        of_join.values())]
+    return [*((of_join.get(it, it), rule) for it, rule in found), *whole, *result]
 
 
 OF_FORMS: dict[str, Callable[[Form, Form], Marks | None]] = {

@@ -105,6 +105,18 @@ module _ (f : List Tree) where
         few = few;
       }
 
+  -- the string of one atom, whatever its type
+  pub atom_key : (equality : Equality) (key : JoinKey) (xs : List ItemView) (a : Atomic) (texts : List Text) → key.form ≡ key_form.String → key.scans ≡ []
+      → xs ≡ Value a ∷ [] → texts ≡ text_of a ∷ [] → IsKeyOf equality f key xs texts
+  atom_key equality key xs a texts form none is made = subst (λ ys. IsKeyOf equality f key ys texts) (sym is) (record {
+    value = Atom (String (text_of a)) ∷ [];
+    gives =
+        ap (λ ss. go_on (in_turn (λ zs (s : Axis × Test). Forms.scan s.0 s.1 zs) (Atom a ∷ []) ss f) (formed key.form)) none
+        ∙ ap (λ k. formed k (Atom a ∷ []) f) form;
+    are = subst (AreTexts (String (text_of a) ∷ [])) (sym made) (refl, tt);
+    few = λ e. let one = ap length made in omega (arith, one);
+  })
+
   pub texts_told : (equality : Equality) (key : JoinKey) (xs : List ItemView) (texts : List Text) → IsKeyOf equality f key xs texts → join_texts f key xs ≡ texts
   texts_told equality key xs texts is = ap texts_given is.gives ∙ texts_are (atomized f is.value) texts is.are
 

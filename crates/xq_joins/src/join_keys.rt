@@ -1,8 +1,10 @@
 //! The key of a join, as the texts of its atoms.
-ghost use Rattle.std.specs.Prelude.{◌≡◌, ◌≤◌, List, map, string_bytes, true, IfOk, IfSome};
+ghost use Rattle.std.specs.Prelude.{◌≡◌, ◌≤◌, ◌∷◌, [], List, map, string_bytes, true, IfOk, IfSome};
+ghost use Rattle.xq_atoms.specs.Atom.{atomic_of};
 ghost use Rattle.xq_axes.specs.Nodes.{HaveAll};
-ghost use Rattle.xq_trees.specs.Items.{item_view};
+ghost use Rattle.xq_trees.specs.Items.{Value, item_view};
 ghost use Rattle.xq_trees.specs.Tree.{Tree};
+ghost use Rattle.xq_meaning.specs.declared.joins.Equality.{Equality as EqualityLem};
 ghost use Rattle.xq_meaning.specs.Items.{atomized};
 ghost use Rattle.xq_meaning.specs.Readings.{node_at, items_at, AreIn};
 ghost use Rattle.xq_joins.specs.private.Keys.{nodes_after as nodes_after_lem};
@@ -12,7 +14,7 @@ ghost use Rattle.xq_joins.specs.private.Texts.{IsTextItem};
 use crate::keys::texts_of;
 use crate::values::{are_nodes, nodes_among};
 use std::alloc::Global;
-use xq_atoms::{Atom, Want};
+use xq_atoms::{Atom, Want, cast_str};
 use xq_axes::step as step_from;
 use xq_meaning::{Equality, JoinKey, KeyForm, Test};
 use xq_sources::RowLender;
@@ -117,6 +119,37 @@ fn in_form(alloc: Global, form: KeyForm, texts: Vec<String>) -> Result<Option<Ve
     }
 }
 
+/// The only item, where it is an atom.
+fn atom_alone(items: &[Item]) -> Option<&Atom>
+    ensures { IfSome result (λ atom. map item_view items.now ≡ Value (atomic_of atom.now) ∷ []) }
+{
+    let [Item::Atom(atom)] = items else {
+        return None;
+    };
+    Some(atom)
+}
+
+/// The text that a key gives which is `string(..)` of the item in its slot, one atom of any type.
+/// None where it is another key, or where there is another value.
+fn atom_text(alloc: Global, key: &JoinKey, items: &[Item]) -> Result<Option<Vec<String>>, Want>
+    ensures { (equality : EqualityLem) (trees : List Tree) → IfOk result (λ found.
+        IfSome found (λ texts. IsKeyOf equality trees key.now (map item_view items.now)
+        (map string_bytes texts.items))) }
+{
+    let KeyForm::String = key.form else {
+        return Ok(None);
+    };
+    if !key.scans.is_empty() {
+        return Ok(None);
+    }
+    let Some(atom) = atom_alone(items) else {
+        return Ok(None);
+    };
+    let mut texts = Vec::with_capacity(alloc, 1)?;
+    texts.push(cast_str(alloc, atom)?)?;
+    Ok(Some(texts))
+}
+
 /// Whether so many atoms may be compared: one at most, where values are.
 fn are_few(equality: Equality, count: usize) -> bool
     ensures { result ≡ true → equality ≡ Equality.Value → count ≤ 1 }
@@ -143,6 +176,9 @@ pub fn join_key_texts<L: RowLender>(
     ensures keeps { L.forest source.new ≡ L.forest source.old }
     ensures was_clean { L.is_clean source.new → L.is_clean source.old }
 {
+    if let Some(texts) = atom_text(alloc, key, items)? {
+        return Ok(Some(texts));
+    }
     let Some(texts) = texts_after(alloc, source, items, key.scans.as_slice())? else {
         return Ok(None);
     };

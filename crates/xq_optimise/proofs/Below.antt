@@ -18,10 +18,9 @@ use Rattle.xq_meaning.specs.Same.{frame_of}
 use Rattle.xq_meaning.proofs.PlanEquations as plan_eq
 use Rattle.xq_meaning.proofs.SameForms.{AreRelated, then_same, in_turn_same, chain_same, Same}
 use Rattle.xq_optimise.specs.declared.held.Held.{Held}
-use Rattle.xq_optimise.specs.Known.{Fits}
-use Rattle.xq_optimise.specs.declared.held.Held.TheVariants.{Nodes}
+use Rattle.xq_optimise.specs.Known.{Fits, IsOfNodes}
 use Rattle.xq_optimise.specs.Sure.{SurelyNodes, SurelyTexts, ReadsBelow, IgnoresFocus, IsTest}
-use Rattle.xq_optimise.specs.private.Parts.{IsScan, general_comparison}
+use Rattle.xq_optimise.specs.private.Parts.{IsKnown, IsScan, general_comparison}
 use Rattle.xq_optimise.proofs.Scans.{slot_surely, path_surely}
 use Rattle.xq_optimise.proofs.Tests.{comparison_tells}
 
@@ -29,7 +28,7 @@ none_held : (m : ℕ) (a : Held) → (let none : List Held = [] in slice_get non
 none_held zero a e = cc
 none_held (suc m) a e = cc
 
-value_below : (n : ℕ) (known : List Held) (slots more : Slots) (held : Held) → Fits known slots →
+pub value_below : (n : ℕ) (known : List Held) (slots more : Slots) (held : Held) → Fits known slots →
     slice_get known n ≡ Some held → value_at n (slots ++ more) ≡ value_at n slots
 value_below n [] [] more held h is = absurd (none_held n held is)
 value_below n [] (x ∷ slots) more held h is = absurd h
@@ -108,11 +107,11 @@ comparison_below known relation p q h k slots more focus addresses trees fits =
 -- # Parts whose form is known
 
 pub path_at : (known : List Held) (p start : Plan) (steps : List PlanStep) (n : ℕ) → p ≡ plan.Path start steps → start ≡ plan.Slot n →
-    slice_get known n ≡ Some Nodes → AllByRecursion IsScan steps → SurelyNodes known p × ReadsBelow known p × IgnoresFocus p
+    IsKnown IsOfNodes known n → AllByRecursion IsScan steps → SurelyNodes known p × ReadsBelow known p × IgnoresFocus p
 path_at known p start steps n is slot held all =
     let whole : p ≡ plan.Path (plan.Slot n) steps = is ∙ ap (λ s. plan.Path s steps) slot in (
       subst (SurelyNodes known) (sym whole) (path_surely known (plan.Slot n) steps (slot_surely known n held) all),
-      subst (ReadsBelow known) (sym whole) (path_below known (plan.Slot n) steps (slot_below known n Nodes held) all),
+      subst (ReadsBelow known) (sym whole) (path_below known (plan.Slot n) steps (slot_below known n held.0 held.1) all),
       subst IgnoresFocus (sym whole) (path_ignores (plan.Slot n) steps (slot_ignores n) all),
     )
 

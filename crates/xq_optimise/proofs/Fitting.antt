@@ -25,8 +25,9 @@ use Rattle.xq_meaning.specs.Doing.{Doing, Outcome, go_on, give, judged, in_turn,
 use Rattle.xq_meaning.specs.Forms
 use Rattle.xq_meaning.specs.PlanMeaning.{Slots}
 use Rattle.xq_optimise.specs.declared.held.Held.{Held}
-use Rattle.xq_optimise.specs.declared.held.Held.TheVariants.{Nodes, Anything}
-use Rattle.xq_optimise.specs.Known.{Holds, Fits}
+use Rattle.xq_optimise.specs.declared.held.Held.TheVariants as has
+use Rattle.xq_optimise.specs.declared.held.Held.TheVariants.{Anything}
+use Rattle.xq_optimise.specs.Known.{IsTextItem, Holds, Fits, each_of}
 use Rattle.xq_optimise.specs.private.Parts.{GivesHeld, AllFit, GivesFitting, with_position, forgotten}
 
 -- # Slots
@@ -52,22 +53,34 @@ fits_length (a ∷ known) (x ∷ xs) h = let e = fits_length known xs h.1 in ome
 
 -- the items of a value, one by one
 
-nodes_hold : (ps : List Place) → AllByRecursion (λ x. Holds Nodes (x ∷ [])) (map Node ps)
+nodes_hold : (ps : List Place) → AllByRecursion (λ x. Holds has.Node (x ∷ [])) (map Node ps)
 nodes_hold [] = tt
-nodes_hold (p ∷ ps) = ((p ∷ [], refl), nodes_hold ps)
+nodes_hold (p ∷ ps) = (((p ∷ [], refl), tt), nodes_hold ps)
 
-anything_holds : (xs : List Item) → AllByRecursion (λ x. Holds Anything (x ∷ [])) xs
-anything_holds [] = tt
-anything_holds (x ∷ xs) = (tt, anything_holds xs)
+texts_hold : (xs : List Item) → AllByRecursion IsTextItem xs → AllByRecursion (λ x. Holds has.Text (x ∷ [])) xs
+texts_hold [] h = tt
+texts_hold (x ∷ xs) h = (((h.0, tt), tt), texts_hold xs h.1)
+
+one_holds : (xs : List Item) → AllByRecursion (λ x. Holds has.Item (x ∷ [])) xs
+one_holds [] = tt
+one_holds (x ∷ xs) = (tt, one_holds xs)
 
 pub items_hold : (held : Held) (xs : List Item) → Holds held xs →
-    AllByRecursion (λ x. Holds held (x ∷ [])) xs
-items_hold Nodes xs (ps, is) = subst (AllByRecursion (λ x. Holds Nodes (x ∷ []))) (sym is) (nodes_hold ps)
-items_hold Anything xs h = anything_holds xs
+    AllByRecursion (λ x. Holds (each_of held) (x ∷ [])) xs
+items_hold has.Nodes xs (ps, is) = subst (AllByRecursion (λ x. Holds has.Node (x ∷ []))) (sym is) (nodes_hold ps)
+items_hold has.Node xs ((ps, is), few) = subst (AllByRecursion (λ x. Holds has.Node (x ∷ []))) (sym is) (nodes_hold ps)
+items_hold has.Texts xs h = texts_hold xs h
+items_hold has.Text xs (h, few) = texts_hold xs h
+items_hold has.Item xs h = one_holds xs
+items_hold has.Anything xs h = one_holds xs
 
-nothing_holds : (held : Held) → Holds held []
-nothing_holds Nodes = ([], refl)
-nothing_holds Anything = tt
+nothing_holds : (held : Held) → Holds (each_of held) []
+nothing_holds has.Nodes = (([], refl), tt)
+nothing_holds has.Node = (([], refl), tt)
+nothing_holds has.Texts = (tt, tt)
+nothing_holds has.Text = (tt, tt)
+nothing_holds has.Item = tt
+nothing_holds has.Anything = tt
 
 -- # Evaluation
 
@@ -95,9 +108,13 @@ pub each_gives : {A B : Type 0} (P : B → Type 0) (act : A → Doing B) (xs : L
     Gives (AllByRecursion P) (for_each act xs f)
 each_gives P act xs f h = turns_give P act xs [] f h tt
 
-held_gives : (held : Held) (o : Outcome (List Item)) → GivesHeld held o → Gives (Holds held) o
+pub held_gives : (held : Held) (o : Outcome (List Item)) → GivesHeld held o → Gives (Holds held) o
 held_gives held (Ok xs, f) h = h
 held_gives held (Err code, f) h = tt
+
+pub gives_held : (held : Held) (o : Outcome (List Item)) → Gives (Holds held) o → GivesHeld held o
+gives_held held (Ok xs, f) h = h
+gives_held held (Err code, f) h = tt
 
 fitting_gives : (known : List Held) (slots : Slots) (o : Outcome (List (Tuple Item))) → Gives (AllFit known slots) o →
     GivesFitting known slots o
@@ -134,7 +151,7 @@ item_fits : (held : Held) (at : Bool) (k : ℕ) (x : Item) → Holds held (x ∷
 item_fits held true k x h = (h, (tt, tt))
 item_fits held false k x h = (h, tt)
 
-empty_fits : (held : Held) (at : Bool) → Fits (with_position held at) (empty_values Atom at)
+empty_fits : (held : Held) (at : Bool) → Fits (with_position (each_of held) at) (empty_values Atom at)
 empty_fits held true = (nothing_holds held, (tt, tt))
 empty_fits held false = (nothing_holds held, tt)
 
@@ -146,21 +163,21 @@ each_fits known held slots at t k (x ∷ xs) h all =
     (fits_after known (with_position held at) slots t (item_values Atom at k x) h (item_fits held at k x all.0), each_fits known held slots at t (k + 1) xs h all.1)
 
 items_fit : (known : List Held) (held : Held) (slots : Slots) (allows at : Bool) (t : Tuple Item) (xs : List Item) → Fits known (slots ++ t) →
-    AllByRecursion (λ x. Holds held (x ∷ [])) xs →
-    AllFit (known ++ with_position held at) slots (with_items Atom allows at t xs)
+    AllByRecursion (λ x. Holds (each_of held) (x ∷ [])) xs →
+    AllFit (known ++ with_position (each_of held) at) slots (with_items Atom allows at t xs)
 items_fit known held slots true at t [] h all =
-    (fits_after known (with_position held at) slots t (empty_values Atom at) h (empty_fits held at), tt)
-items_fit known held slots true at t (x ∷ xs) h all = each_fits known held slots at t 1 (x ∷ xs) h all
-items_fit known held slots false at t xs h all = each_fits known held slots at t 1 xs h all
+    (fits_after known (with_position (each_of held) at) slots t (empty_values Atom at) h (empty_fits held at), tt)
+items_fit known held slots true at t (x ∷ xs) h all = each_fits known (each_of held) slots at t 1 (x ∷ xs) h all
+items_fit known held slots false at t xs h all = each_fits known (each_of held) slots at t 1 xs h all
 
 expanded_fits : (known : List Held) (held : Held) (slots : Slots) (allows at : Bool) (tuples : List (Tuple Item)) (lists : List (List Item)) → AllFit known slots tuples →
     AllByRecursion (Holds held) lists →
-    AllFit (known ++ with_position held at) slots (expanded Atom allows at tuples lists)
+    AllFit (known ++ with_position (each_of held) at) slots (expanded Atom allows at tuples lists)
 expanded_fits known held slots allows at [] lists h all = tt
 expanded_fits known held slots allows at (t ∷ ts) [] h all = tt
 expanded_fits known held slots allows at (t ∷ ts) (xs ∷ xss) h all =
-    subst (AllFit (known ++ with_position held at) slots) (sym (flat_map-cons (λ (p : Tuple Item × List Item). with_items Atom allows at p.0 p.1) (t, xs) (zip ts xss)))
-    (all_append (λ u. Fits (known ++ with_position held at) (slots ++ u)) (with_items Atom allows at t xs) (expanded Atom allows at ts xss) (items_fit known held slots allows at t xs h.0 (items_hold held xs all.0)) (expanded_fits known held slots allows at ts xss h.1 all.1))
+    subst (AllFit (known ++ with_position (each_of held) at) slots) (sym (flat_map-cons (λ (p : Tuple Item × List Item). with_items Atom allows at p.0 p.1) (t, xs) (zip ts xss)))
+    (all_append (λ u. Fits (known ++ with_position (each_of held) at) (slots ++ u)) (with_items Atom allows at t xs) (expanded Atom allows at ts xss) (items_fit known held slots allows at t xs h.0 (items_hold held xs all.0)) (expanded_fits known held slots allows at ts xss h.1 all.1))
 
 -- # count
 
@@ -257,7 +274,7 @@ in_own_groups P before (p ∷ ps) h k = (
       (in_own_groups P (before ++ p ∷ []) ps (all_append P before (p ∷ []) h (k.0, tt)) k.1),
 )
 
-firsts_all : {A : Type 0} (P : A → Type 0) (same : A → A → Bool) (xs : List A) → AllByRecursion P xs →
+pub firsts_all : {A : Type 0} (P : A → Type 0) (same : A → A → Bool) (xs : List A) → AllByRecursion P xs →
     AllByRecursion P (firsts same xs)
 firsts_all P same [] h = tt
 firsts_all P same (x ∷ xs) h =
@@ -320,10 +337,10 @@ module _ {E : Type 0} (known : List Held) (slots : Slots) (frame_at : Tuple Item
   all_gives held m (t ∷ ts) k = ((λ f. held_gives held (m (frame_at t) f) (k.0 f)), all_gives held m ts k.1)
 
   pub for_fits : (empties : AllowingEmpty) (at : Bool) (held : Held) (m : Forms.Meaning E) (f : List Tree) → AllHeld held m →
-      GivesFitting (known ++ with_position held at) slots (Forms.for_tuples empties at m frame_at tuples f)
+      GivesFitting (known ++ with_position (each_of held) at) slots (Forms.for_tuples empties at m frame_at tuples f)
   for_fits empties at held m f k =
-      fitting_gives (known ++ with_position held at) slots (Forms.for_tuples empties at m frame_at tuples f)
-      (then_gives (AllByRecursion (Holds held)) (AllFit (known ++ with_position held at) slots) (for_each (λ t. m (frame_at t)) tuples f) (λ lists. give (expanded Atom (Forms.allows empties) at tuples lists))
+      fitting_gives (known ++ with_position (each_of held) at) slots (Forms.for_tuples empties at m frame_at tuples f)
+      (then_gives (AllByRecursion (Holds held)) (AllFit (known ++ with_position (each_of held) at) slots) (for_each (λ t. m (frame_at t)) tuples f) (λ lists. give (expanded Atom (Forms.allows empties) at tuples lists))
       (each_gives (Holds held) (λ t. m (frame_at t)) tuples f (all_gives held m tuples k))
       (λ lists g all. expanded_fits known held slots (Forms.allows empties) at tuples lists h all))
 

@@ -23,7 +23,7 @@ use Rattle.xq_meaning.proofs.Turns.{go_on_give}
 use Rattle.xq_meaning.proofs.SameForms.{AreRelated, for_tuples_same, let_tuples_same, where_tuples_same, order_tuples_same, return_same, SameAt, SameKey as KeySame, SameModifier}
 use Rattle.xq_optimise.specs.declared.held.Held.{Held}
 use Rattle.xq_optimise.specs.declared.held.Held.TheVariants.{Anything}
-use Rattle.xq_optimise.specs.Known.{Fits}
+use Rattle.xq_optimise.specs.Known.{Fits, each_of}
 use Rattle.xq_optimise.specs.Same.{GivesSame}
 use Rattle.xq_optimise.specs.private.Parts.{AreAll, SameKey, IsHeld, GivesHeld, AllFit, GivesFitting, Follows, SameClause, SameMany, SameClauses, with_position, forgotten}
 use Rattle.xq_optimise.proofs.Forms.{related_map}
@@ -82,9 +82,9 @@ module _ (start : ℕ) (known : List Held) where
 
   pub for_follows : (empties : AllowingEmpty) (at : Bool) (held : Held) (p q : Plan) → GivesSame known p q →
       IsHeld known held p →
-      SameClause start known (clause.For empties at p) (clause.For empties at q) (known ++ with_position held at)
+      SameClause start known (clause.For empties at p) (clause.For empties at q) (known ++ with_position (each_of held) at)
   for_follows empties at held p q is as' =
-      by_clause (known ++ with_position held at) (clause.For empties at p) (clause.For empties at q) _ _ (plan_eq.clause-For empties at p) (plan_eq.clause-For empties at q)
+      by_clause (known ++ with_position (each_of held) at) (clause.For empties at p) (clause.For empties at q) _ _ (plan_eq.clause-For empties at p) (plan_eq.clause-For empties at q)
       (λ slots focus addresses l tuples trees w. record {
         same = for_tuples_same (tuple_at known slots focus addresses) (tuple_at known slots focus addresses) empties at (plan_mean q) (plan_mean p) tuples (all_same known slots focus addresses p q is tuples w) trees;
         fits = for_fits known slots (tuple_at known slots focus addresses) tuples w empties at held (plan_mean p) trees (all_held known slots focus addresses held p as' tuples w);

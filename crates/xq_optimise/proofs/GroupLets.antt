@@ -41,7 +41,7 @@ module _ {A : Type 0} (test : A → Doing Bool) where
           ∙ ap (λ l. in_turn (more kept) l xs g) (satisfying_next ps bs x b h)
       by later (Err code, g) = refl
 
-  passed_is : (xs : List A) (f : List Tree) → go_on (for_each test xs f) (λ tests. give (satisfying xs tests)) ≡ collected kept xs f
+  pub passed_is : (xs : List A) (f : List Tree) → go_on (for_each test xs f) (λ tests. give (satisfying xs tests)) ≡ collected kept xs f
   passed_is xs f = passed_from [] [] xs f refl
 
 -- # Tuples of one item

@@ -88,7 +88,7 @@ group_leaves range join leaves frame t =
     (λ xs. collected_leaves (if_equal join frame t) xs (always (λ x. Leaves (if_equal join frame t x)) (equal_leaves join frame t) xs) [])
 
 -- the clause and the trees, for a value that gives the same at each tuple
-group_found : (outer : ℕ) (known : List Held) (range whole : Plan) (join : Join) → LeavesTrees range →
+pub group_found : (outer : ℕ) (known : List Held) (range whole : Plan) (join : Join) → LeavesTrees range →
     ((slots : Slots) (focus : Option Focus) (addresses : List Text) → length slots ≡ outer → (t : Tuple Item) → Fits known (slots ++ t) → (f : List Tree) →
     equal_items (plan_mean range) join (frame_of slots focus addresses) t f ≡ plan_mean whole (at_tuple (frame_of slots focus addresses) t) f) →
     IsLetOf outer known whole (let_value.Group range join)

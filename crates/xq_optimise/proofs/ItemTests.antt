@@ -38,7 +38,7 @@ order_twice : {A : Type 0} (b : Bool) (xs : List A) →
 order_twice true xs = reverse-reverse xs
 order_twice false xs = refl
 
-order-map : (b : Bool) (ps : List Place) → map Node (if b then reverse ps else ps) ≡ (if b then reverse (map Node ps) else map Node ps)
+pub order-map : (b : Bool) (ps : List Place) → map Node (if b then reverse ps else ps) ≡ (if b then reverse (map Node ps) else map Node ps)
 order-map true ps = map_reverse Node ps
 order-map false ps = refl
 

@@ -31,6 +31,7 @@ use Rattle.xq_meaning.proofs.PlanEquations as plan_eq
 use Rattle.xq_meaning.proofs.SameForms.{then_same, go_on_same, in_turn_same, for_tuples_same, where_tuples_same, SameAt}
 use Rattle.xq_meaning.proofs.Turns.{go_on_give, in_turn-append}
 use Rattle.xq_optimise.specs.declared.held.Held.{Held}
+use Rattle.xq_optimise.specs.declared.held.Held.TheVariants as has
 use Rattle.xq_optimise.specs.declared.held.Held.TheVariants.{Anything}
 use Rattle.xq_optimise.specs.private.Joins.{scan_step, equal_plan, StartsAt, IsKey, IsKeys, IsRenamed, Carries, SameList, AddsJoin}
 use Rattle.xq_optimise.specs.private.Order.{SameTurns}
@@ -226,11 +227,11 @@ turns_then start known cs ds es h k slots focus addresses l tuples trees w =
 
 -- # A join that is there
 
-pub join_follows : (start : ℕ) (known : List Held) (range : Plan) (join : Join) → SameClause start known (clause.Join range join) (clause.Join range join) (known ++ Anything ∷ [])
+pub join_follows : (start : ℕ) (known : List Held) (range : Plan) (join : Join) → SameClause start known (clause.Join range join) (clause.Join range join) (known ++ has.Item ∷ [])
 join_follows start known range join slots focus addresses l tuples trees w = record {
   same = refl;
   fits =
-      subst (λ m. GivesFitting (known ++ Anything ∷ []) slots (m (frame_of slots focus addresses) tuples trees)) (sym (plan_eq.clause-Join range join))
+      subst (λ m. GivesFitting (known ++ has.Item ∷ []) slots (m (frame_of slots focus addresses) tuples trees)) (sym (plan_eq.clause-Join range join))
       (kept (Forms.for_tuples allowing.No false (plan_mean range) (at_carried join (frame_of slots focus addresses)) tuples trees)
       (for_fits known slots (at_carried join (frame_of slots focus addresses)) tuples w allowing.No false Anything (plan_mean range) trees (any_held tuples)));
 }
@@ -243,19 +244,19 @@ join_follows start known range join slots focus addresses l tuples trees w = rec
         any_value (Ok xs, f) = tt
         any_value (Err code, f) = tt
 
-    kept : (o : Outcome (List (Tuple Item))) → GivesFitting (known ++ Anything ∷ []) slots o →
-        GivesFitting (known ++ Anything ∷ []) slots (go_on o (Forms.where_tuples (keys_equal join) (at_tuple (frame_of slots focus addresses))))
-    kept (Ok found, f) h = where_fits (known ++ Anything ∷ []) slots (at_tuple (frame_of slots focus addresses)) found h (keys_equal join) f
+    kept : (o : Outcome (List (Tuple Item))) → GivesFitting (known ++ has.Item ∷ []) slots o →
+        GivesFitting (known ++ has.Item ∷ []) slots (go_on o (Forms.where_tuples (keys_equal join) (at_tuple (frame_of slots focus addresses))))
+    kept (Ok found, f) h = where_fits (known ++ has.Item ∷ []) slots (at_tuple (frame_of slots focus addresses)) found h (keys_equal join) f
     kept (Err code, f) h = tt
 
-pub join_adds : (start : ℕ) (old new : List Held) (range : Plan) (join : Join) (before after : List PlanClause) → new ≡ old ++ Anything ∷ [] →
+pub join_adds : (start : ℕ) (old new : List Held) (range : Plan) (join : Join) (before after : List PlanClause) → new ≡ old ++ has.Item ∷ [] →
     after ≡ before ++ clause.Join range join ∷ [] → AddsClauses start old (clause.Join range join) before after new
 join_adds start old new range join before after bound pushed =
     subst (λ k. AddsClauses start old (clause.Join range join) before after k) (sym bound)
-    (clause.Join range join ∷ [], pushed, one_follows start old (old ++ Anything ∷ []) (clause.Join range join) (clause.Join range join) (join_follows start old range join))
+    (clause.Join range join ∷ [], pushed, one_follows start old (old ++ has.Item ∷ []) (clause.Join range join) (clause.Join range join) (join_follows start old range join))
 
-pub join_itself : (start : ℕ) (old new : List Held) (c : PlanClause) (range : Plan) (join : Join) → c ≡ clause.Join range join → new ≡ old ++ Anything ∷ [] → SameMany start old c (c ∷ []) new
+pub join_itself : (start : ℕ) (old new : List Held) (c : PlanClause) (range : Plan) (join : Join) → c ≡ clause.Join range join → new ≡ old ++ has.Item ∷ [] → SameMany start old c (c ∷ []) new
 join_itself start old new c range join is bound =
     subst (λ x. SameMany start old x (x ∷ []) new) (sym is)
     (subst (SameMany start old (clause.Join range join) (clause.Join range join ∷ [])) (sym bound)
-    (one_follows start old (old ++ Anything ∷ []) (clause.Join range join) (clause.Join range join) (join_follows start old range join)))
+    (one_follows start old (old ++ has.Item ∷ []) (clause.Join range join) (clause.Join range join) (join_follows start old range join)))

@@ -13,6 +13,7 @@ pub mod PositionTests
 pub mod ItemTests
 pub mod Keeping
 pub mod Splitting
+pub mod KindLaws
 pub mod NodesAtOnce
 pub mod WholePaths
 pub mod Rising
@@ -24,6 +25,8 @@ pub mod SlotsOutside
 pub mod FromOne
 pub mod FilterLaws
 pub mod GroupMatches
+pub mod StepGroups
+pub mod NarrowRanges
 pub mod GroupReturns
 pub mod TupleByTuple
 pub mod NestedReturns

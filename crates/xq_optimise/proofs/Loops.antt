@@ -19,6 +19,7 @@ use Rattle.xq_meaning.specs.Same.{frame_of}
 use Rattle.xq_meaning.proofs.Turns.{go_on_give, go_on_go_on, in_turn-append}
 use Rattle.xq_optimise.specs.declared.held.Held.{Held}
 use Rattle.xq_optimise.specs.declared.held.Held.TheVariants.{Anything}
+use Rattle.xq_optimise.specs.Known.{each_of}
 use Rattle.xq_optimise.specs.Same.{GivesSame}
 use Rattle.xq_optimise.specs.private.Parts.{AreAll, SameKey, IsHeld, with_position, AllFit, GivesFitting, Follows, SameRanges, SameClause, SameMany, AddsClauses, AddsTests, SameClauses, Extends, forgotten}
 use Rattle.xq_optimise.proofs.Ranges.{ranges_push, held_of_same}
@@ -99,13 +100,13 @@ no_ranges all left old is = record {
 
 pub range_next : (all left rest : List Plan) (old mid now now' : List Held) (done done' : List Plan) (p q : Plan) →
     RangesLeft all left old now done → left ≡ rest ++ p ∷ [] → GivesSame now p q → mid ≡ now →
-    (held : Held) → IsHeld mid held q → now' ≡ mid ++ held ∷ [] → done' ≡ done ++ q ∷ [] → RangesLeft all rest old now' done'
+    (held : Held) → IsHeld mid held q → now' ≡ mid ++ each_of held ∷ [] → done' ≡ done ++ q ∷ [] → RangesLeft all rest old now' done'
 range_next all left rest old mid now now' done done' p q h cut is kept held as' bound pushed = record {
   taken = h.taken ++ p ∷ [];
   whole = sym (turned h.taken rest p) ∙ ap (λ l. h.taken ++ reverse l) (sym cut) ∙ h.whole;
   same =
       subst (λ (l : List Plan). SameRanges old (h.taken ++ p ∷ []) l now') (sym pushed)
-      (subst (SameRanges old (h.taken ++ p ∷ []) (done ++ q ∷ [])) (sym (bound ∙ ap (λ k. k ++ held ∷ []) kept))
+      (subst (SameRanges old (h.taken ++ p ∷ []) (done ++ q ∷ [])) (sym (bound ∙ ap (λ k. k ++ each_of held ∷ []) kept))
       (ranges_push old now held h.taken done p q h.same is (held_of_same now held p q is (subst (λ k. IsHeld k held q) kept as'))));
 }
 
@@ -138,13 +139,13 @@ extends_bound start old mid new held at h kept bound =
     extends_more start old new (with_position held at) h (bound ∙ ap (λ k. k ++ with_position held at) kept)
 
 pub for_adds : (start : ℕ) (old mid new : List Held) (empties : AllowingEmpty) (at : Bool) (p q : Plan) (before after : List PlanClause) →
-    GivesSame old p q → mid ≡ old → (held : Held) → IsHeld mid held q → new ≡ mid ++ with_position held at → after ≡ before ++ clause.For empties at q ∷ [] →
+    GivesSame old p q → mid ≡ old → (held : Held) → IsHeld mid held q → new ≡ mid ++ with_position (each_of held) at → after ≡ before ++ clause.For empties at q ∷ [] →
     AddsClauses start old (clause.For empties at p) before after new
 for_adds start old mid new empties at p q before after is kept held as' bound pushed = (
   clause.For empties at q ∷ [],
   pushed,
   one_follows start old new (clause.For empties at p) (clause.For empties at q)
-      (subst (SameClause start old (clause.For empties at p) (clause.For empties at q)) (sym (bound ∙ ap (λ k. k ++ with_position held at) kept))
+      (subst (SameClause start old (clause.For empties at p) (clause.For empties at q)) (sym (bound ∙ ap (λ k. k ++ with_position (each_of held) at) kept))
       (for_follows start old empties at held p q is (held_of_same old held p q is (subst (λ k. IsHeld k held q) kept as')))),
 )
 
@@ -301,8 +302,8 @@ ranges_more known [] [] last h = ([], h ∙ sym (append-nil known))
 ranges_more known [] (q ∷ qs) last h = absurd h
 ranges_more known (p ∷ ps) [] last h = absurd h
 ranges_more known (p ∷ ps) (q ∷ qs) last (held, same, as', more) =
-    let rest = ranges_more (known ++ held ∷ []) ps qs last more in
-    (held ∷ rest.0, rest.1 ∙ append_assoc known (held ∷ []) rest.0)
+    let rest = ranges_more (known ++ each_of held ∷ []) ps qs last more in
+    (each_of held ∷ rest.0, rest.1 ∙ append_assoc known (each_of held ∷ []) rest.0)
 
 -- a scope that is left
 pub scope_left : (start : ℕ) (old now last new : List Held) → start ≡ length old → take start now ≡ take start old →

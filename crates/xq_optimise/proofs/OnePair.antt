@@ -29,9 +29,9 @@ use Rattle.xq_meaning.specs.PlanMeaning.{Slots, plan_mean}
 use Rattle.xq_meaning.specs.Same.{frame_of}
 use Rattle.xq_meaning.proofs.PlanEquations as plan_eq
 use Rattle.xq_optimise.specs.declared.held.Held.{Held}
-use Rattle.xq_optimise.specs.Known.{Fits}
+use Rattle.xq_optimise.specs.Known.{IsText, Fits}
 use Rattle.xq_optimise.specs.Same.{GivesSame}
-use Rattle.xq_optimise.specs.Sure.{IsText, SurelyTexts, ReadsBelow}
+use Rattle.xq_optimise.specs.Sure.{SurelyTexts, ReadsBelow}
 use Rattle.xq_optimise.specs.private.Parts.{general_comparison}
 use Rattle.xq_optimise.specs.private.SomePairs.{ComparesOne}
 use Rattle.xq_optimise.proofs.Fitting.{fits_length}

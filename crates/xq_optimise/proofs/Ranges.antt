@@ -18,7 +18,7 @@ use Rattle.xq_meaning.specs.Same.{frame_of}
 use Rattle.xq_meaning.proofs.PlanEquations as plan_eq
 use Rattle.xq_meaning.proofs.SameForms.{AreRelated, first_that_same, tested_same}
 use Rattle.xq_optimise.specs.declared.held.Held.{Held}
-use Rattle.xq_optimise.specs.Known.{Holds, Fits}
+use Rattle.xq_optimise.specs.Known.{Holds, Fits, each_of}
 use Rattle.xq_optimise.specs.Same.{GivesSame}
 use Rattle.xq_optimise.specs.private.Parts.{IsHeld, GivesHeld, SameRanges}
 use Rattle.xq_optimise.proofs.Forms.{same_of}
@@ -36,11 +36,11 @@ related_items held k l h [] all = tt
 related_items held k l h (x ∷ xs) all = (h x all.0, related_items held k l h xs all.1)
 
 ranged : (wanted : Bool) (held : Held) (k l : Item → Doing Bool) →
-    ((x : Item) → Holds held (x ∷ []) → (f : List Tree) → l x f ≡ k x f) →
+    ((x : Item) → Holds (each_of held) (x ∷ []) → (f : List Tree) → l x f ≡ k x f) →
     (o : Outcome (List Item)) → GivesHeld held o →
     go_on o (λ xs. first_that wanted l xs) ≡ go_on o (λ xs. first_that wanted k xs)
 ranged wanted held k l h (Ok xs, f) holds =
-    first_that_same wanted l k xs xs (related_items held k l h xs (items_hold held xs holds)) f
+    first_that_same wanted l k xs xs (related_items (each_of held) k l h xs (items_hold held xs holds)) f
 ranged wanted held k l h (Err code, f) holds = refl
 
 satisfied_gives : (wanted : Bool) (m n : Plan) (last : List Held) → GivesSame last m n →
@@ -57,7 +57,7 @@ satisfied_gives wanted m n last is known (p ∷ ps) (q ∷ qs) (held, same, hold
     let at : List Plan → Plan → Item → Doing Bool = λ rs r x. Forms.satisfied wanted (map binding rs) (plan_mean r) (frame_of (opened slots (x ∷ [])) focus addresses) in
     ap (λ o. go_on o (λ xs. first_that wanted (at qs n) xs)) (same slots focus addresses f fits)
     ∙ ranged wanted held (at ps m) (at qs n)
-    (λ x is-held g. satisfied_gives wanted m n last is (known ++ held ∷ []) ps qs more (opened slots (x ∷ [])) focus addresses g (fits_more known (held ∷ []) slots ((x ∷ []) ∷ []) fits (is-held, tt)))
+    (λ x is-held g. satisfied_gives wanted m n last is (known ++ each_of held ∷ []) ps qs more (opened slots (x ∷ [])) focus addresses g (fits_more known (each_of held ∷ []) slots ((x ∷ []) ∷ []) fits (is-held, tt)))
     (plan_mean p (frame_of slots focus addresses) f) (holds slots focus addresses f fits)
 
 pub quantified_gives : (known last : List Held) (which : Quantifier) (ps qs : List Plan) (m n : Plan) →
@@ -79,10 +79,10 @@ held_of_same known held p q is h slots focus addresses trees fits =
 
 pub ranges_push : (known mid : List Held) (held : Held) (ps qs : List Plan) (p q : Plan) →
     SameRanges known ps qs mid → GivesSame mid p q → IsHeld mid held p →
-    SameRanges known (ps ++ p ∷ []) (qs ++ q ∷ []) (mid ++ held ∷ [])
+    SameRanges known (ps ++ p ∷ []) (qs ++ q ∷ []) (mid ++ each_of held ∷ [])
 ranges_push known mid held [] [] p q h is as' =
-    subst (λ k. SameRanges k (p ∷ []) (q ∷ []) (mid ++ held ∷ [])) h (held, is, as', refl)
+    subst (λ k. SameRanges k (p ∷ []) (q ∷ []) (mid ++ each_of held ∷ [])) h (held, is, as', refl)
 ranges_push known mid held [] (y ∷ ys) p q h is as' = absurd h
 ranges_push known mid held (x ∷ xs) [] p q h is as' = absurd h
 ranges_push known mid held (x ∷ xs) (y ∷ ys) p q (a, same, holds, more) is as' =
-    (a, same, holds, ranges_push (known ++ a ∷ []) mid held xs ys p q more is as')
+    (a, same, holds, ranges_push (known ++ each_of a ∷ []) mid held xs ys p q more is as')

@@ -25,7 +25,7 @@ use Rattle.xq_meaning.proofs.PlanEquations as plan_eq
 use Rattle.xq_meaning.proofs.Turns.{go_on_give, in_turn-append}
 use Rattle.xq_optimise.specs.declared.held.Held.{Held}
 use Rattle.xq_optimise.specs.declared.held.Held.TheVariants.{Nodes, Anything}
-use Rattle.xq_optimise.specs.Known.{Fits}
+use Rattle.xq_optimise.specs.Known.{Fits, each_of}
 use Rattle.xq_optimise.specs.Same.{GivesSame}
 use Rattle.xq_optimise.specs.Sure.{SurelyTells, SurelyNodes, ReadsBelow, IsTest}
 use Rattle.xq_optimise.specs.private.Parts.{AreAll, AllFit, IsHeld, GivesHeld, GivesFitting, SameClause, SameMany, SameKey, Extends, with_position, forgotten}
@@ -450,7 +450,7 @@ itself_at : (start : ℕ) (old new : List Held) (c d : PlanClause) → c ≡ d �
 itself_at start old new c d is h = subst (λ e. SameMany start old e (e ∷ []) new) (sym is) (one_follows start old new d d h)
 
 pub for_itself : (start : ℕ) (old new : List Held) (c : PlanClause) (empties : AllowingEmpty) (at : Bool) (p : Plan) (held : Held) → c ≡ clause.For empties at p →
-    IsHeld old held p → new ≡ old ++ with_position held at → SameMany start old c (c ∷ []) new
+    IsHeld old held p → new ≡ old ++ with_position (each_of held) at → SameMany start old c (c ∷ []) new
 for_itself start old new c empties at p held is as' bound =
     itself_at start old new c (clause.For empties at p) is
     (subst (SameClause start old (clause.For empties at p) (clause.For empties at p)) (sym bound) (for_follows start old empties at held p p (gives_itself old p) as'))

@@ -23,12 +23,14 @@ use Rattle.xq_meaning.specs.PlanMeaning.{Slots, Frame, next_step, plan_mean, pla
 use Rattle.xq_meaning.specs.Same.{frame_of}
 use Rattle.xq_meaning.proofs.PlanEquations as plan_eq
 use Rattle.xq_meaning.proofs.SameForms.{go_on_same}
-use Rattle.xq_meaning.proofs.Turns.{go_on_go_on, in_turn-append}
+use Rattle.xq_meaning.proofs.Turns.{go_on_give, go_on_go_on, in_turn-append}
 use Rattle.xq_optimise.specs.declared.held.Held.{Held}
+use Rattle.xq_optimise.specs.declared.held.Held.TheVariants as has
 use Rattle.xq_optimise.specs.declared.held.Held.TheVariants.{Nodes, Anything}
-use Rattle.xq_optimise.specs.Known.{Holds, Fits}
+use Rattle.xq_optimise.specs.Known.{AreNodes, Holds, Fits, IsOfNodes}
 use Rattle.xq_optimise.specs.Sure.{SurelyNodes}
-use Rattle.xq_optimise.specs.private.Parts.{IsHeld, GivesHeld, IsScan, EndsInScan}
+use Rattle.xq_optimise.specs.private.Kinds.{LeavesNodes, EndsInNodes}
+use Rattle.xq_optimise.specs.private.Parts.{IsHeld, IsKnown, GivesHeld, IsScan}
 
 pub nodes_all : (code : Code) (ps : List Place) → all_nodes code (map Node ps) ≡ Ok ps
 nodes_all code [] = refl
@@ -78,31 +80,29 @@ scans_from frame (s ∷ steps) all ps f =
 abbrev HasNodes : Outcome (List Item) → Type 0
 HasNodes o = GivesHeld Nodes o
 
-from_nodes : (frame : Frame) (steps : List PlanStep) → AllByRecursion IsScan steps → (ps : List Place) (f : List Tree) →
-    HasNodes (in_turn (next_step frame) (map Node ps) (map plan_step_mean steps) f)
-from_nodes frame steps all ps f =
-    let h = scans_from frame steps all ps f in subst HasNodes (sym h.1) (h.0, refl)
+scan_held : (axis : Axis) (test : Test) (xs : List Item) (f : List Tree) → HasNodes (Forms.scan axis test xs f)
+scan_held axis test xs f = by (nodes_or_refused xs)
+  where
+    by : ((ps : List Place) × (xs ≡ map Node ps)) ⊎ ((code : Code) → all_nodes code xs ≡ Err code) →
+        HasNodes (Forms.scan axis test xs f)
+    by (inl (ps, is)) =
+        subst (λ ys. HasNodes (Forms.scan axis test ys f)) (sym is)
+        (subst HasNodes (sym (scan_from axis test ps f)) (found f axis test ps, refl))
+    by (inr refused) =
+        subst (λ r. HasNodes (go_on (judged r f) (λ places. on_trees (λ trees. Ok (in_order trees (flat_map (axis_nodes trees axis test) places)))))) (sym (refused XPTY0019)) tt
 
-first_scan : (frame : Frame) (axis : Axis) (test : Test) (steps : List PlanStep) → AllByRecursion IsScan steps → (xs : List Item) (f : List Tree) →
-    ((ps : List Place) × (xs ≡ map Node ps)) ⊎ ((code : Code) → all_nodes code xs ≡ Err code) →
-    HasNodes (go_on (Forms.scan axis test xs f) (λ ys. in_turn (next_step frame) ys (map plan_step_mean steps)))
-first_scan frame axis test steps all xs f (inl (ps, is)) =
-    subst (λ ys. HasNodes (go_on (Forms.scan axis test ys f) (λ zs. in_turn (next_step frame) zs (map plan_step_mean steps)))) (sym is)
-    (subst (λ o. HasNodes (go_on o (λ zs. in_turn (next_step frame) zs (map plan_step_mean steps)))) (sym (scan_from axis test ps f))
-    (from_nodes frame steps all (found f axis test ps) f))
-first_scan frame axis test steps all xs f (inr refused) =
-    let scanned : List Place → Outcome (List Item) = λ places. (Ok (in_order f (flat_map (axis_nodes f axis test) places)), f) in
-    subst (λ r. HasNodes (go_on (go_on (judged r f) (λ places. on_trees (λ trees. Ok (in_order trees (flat_map (axis_nodes trees axis test) places))))) (λ zs. in_turn (next_step frame) zs (map plan_step_mean steps)))) (sym (refused XPTY0019)) tt
+pub scan_after : (s : PlanStep) → IsScan s → LeavesNodes s
+scan_after s (axis, test, is) frame xs f =
+    subst (λ m. HasNodes (m frame xs f)) (sym (ap plan_step_mean is ∙ plan_eq.step-Scan axis test)) (scan_held axis test xs f)
 
-after_start : (frame : Frame) (s : PlanStep) (steps : List PlanStep) → IsScan s → AllByRecursion IsScan steps → (o : Outcome (List Item)) →
-    HasNodes (go_on o (λ xs. in_turn (next_step frame) xs (map plan_step_mean (s ∷ steps))))
-after_start frame s steps (axis, test, is) all (Ok xs, f) =
-    subst (λ m. HasNodes (go_on (m frame xs f) (λ ys. in_turn (next_step frame) ys (map plan_step_mean steps)))) (sym (ap plan_step_mean is ∙ plan_eq.step-Scan axis test))
-    (first_scan frame axis test steps all xs f (nodes_or_refused xs))
-after_start frame s steps scan all (Err code, f) = tt
+after_start : (frame : Frame) (s : PlanStep) → LeavesNodes s → (o : Outcome (List Item)) →
+    HasNodes (go_on o (λ xs. in_turn (next_step frame) xs (map plan_step_mean (s ∷ []))))
+after_start frame s leaves (Ok xs, f) =
+    subst HasNodes (sym (go_on_give (plan_step_mean s frame xs f))) (leaves frame xs f)
+after_start frame s leaves (Err code, f) = tt
 
--- a path that ends in a scan has nodes
-path_held : (known : List Held) (start : Plan) (before : List PlanStep) (s : PlanStep) → IsScan s →
+-- a path whose last step gives nodes has nodes
+path_held : (known : List Held) (start : Plan) (before : List PlanStep) (s : PlanStep) → LeavesNodes s →
     IsHeld known Nodes (plan.Path start (before ++ s ∷ []))
 path_held known start before s is slots focus addresses trees fits =
     let frame = frame_of slots focus addresses in
@@ -115,12 +115,12 @@ path_held known start before s is slots focus addresses trees fits =
     ∙ go_on_same o (λ xs. in_turn act xs (map plan_step_mean before ++ map plan_step_mean (s ∷ []))) (λ xs f. go_on (in_turn act xs (map plan_step_mean before) f) (λ ys. in_turn act ys (map plan_step_mean (s ∷ []))))
     (λ xs f. in_turn-append act xs (map plan_step_mean before) (map plan_step_mean (s ∷ [])) f)
     ∙ sym (go_on_go_on o (λ xs. in_turn act xs (map plan_step_mean before)) (λ ys. in_turn act ys (map plan_step_mean (s ∷ [])))) in
-    subst HasNodes (sym apart) (after_start frame s [] is tt (go_on o (λ xs. in_turn act xs (map plan_step_mean before))))
+    subst HasNodes (sym apart) (after_start frame s is (go_on o (λ xs. in_turn act xs (map plan_step_mean before))))
 
 pub path_held_at : (known : List Held) (p start : Plan) (steps : List PlanStep) → p ≡ plan.Path start steps →
-    EndsInScan steps → IsHeld known Nodes p
-path_held_at known p start steps is (before, s, cut, scan) =
-    subst (IsHeld known Nodes) (sym (is ∙ ap (plan.Path start) cut)) (path_held known start before s scan)
+    EndsInNodes steps → IsHeld known Nodes p
+path_held_at known p start steps is (before, s, cut, leaves) =
+    subst (IsHeld known Nodes) (sym (is ∙ ap (plan.Path start) cut)) (path_held known start before s leaves)
 
 -- # From slots
 
@@ -145,9 +145,22 @@ slot_is_held known n held is slots focus addresses trees fits =
     subst (λ m. GivesHeld held (m (frame_of slots focus addresses) trees)) (sym (plan_eq.plan-Slot n))
     (slot_held n known slots held fits is)
 
-pub slot_surely : (known : List Held) (n : ℕ) → slice_get known n ≡ Some Nodes → SurelyNodes known (plan.Slot n)
-slot_surely known n is slots focus addresses trees fits =
-    let h = slot_held n known slots Nodes fits is in
+nodes_of : (held : Held) → IsOfNodes held → (xs : List Item) → Holds held xs → AreNodes xs
+nodes_of has.Nodes of xs h = h
+nodes_of has.Node of xs h = h.0
+nodes_of has.Texts of xs h = absurd of
+nodes_of has.Text of xs h = absurd of
+nodes_of has.Item of xs h = absurd of
+nodes_of has.Anything of xs h = absurd of
+
+pub nodes_held : (known : List Held) (n : ℕ) → IsKnown IsOfNodes known n → IsHeld known Nodes (plan.Slot n)
+nodes_held known n (held, is, of) slots focus addresses trees fits =
+    subst (λ m. GivesHeld Nodes (m (frame_of slots focus addresses) trees)) (sym (plan_eq.plan-Slot n))
+    (nodes_of held of (value_at n slots) (slot_held n known slots held fits is))
+
+pub slot_surely : (known : List Held) (n : ℕ) → IsKnown IsOfNodes known n → SurelyNodes known (plan.Slot n)
+slot_surely known n (held, is, of) slots focus addresses trees fits =
+    let h = nodes_of held of (value_at n slots) (slot_held n known slots held fits is) in
     (h.0, ap (λ m. m (frame_of slots focus addresses) trees) (plan_eq.plan-Slot n) ∙ ap (λ xs. (Ok xs, trees)) h.1)
 
 pub path_surely : (known : List Held) (start : Plan) (steps : List PlanStep) → SurelyNodes known start →

@@ -325,7 +325,7 @@ module _ (slots : Slots) (focus : Option Focus) (addresses : List Text) where
   then_held (Ok xs, f) k (ps, is) h = subst (λ ys. HasNodes (k ys f)) (sym is) (h ps f)
   then_held (Err code, f) k next h = tt
 
-  nodes_after : (ms : List Meaning) (ps : List Place) (f : List Tree) →
+  pub nodes_after : (ms : List Meaning) (ps : List Place) (f : List Tree) →
       HasNodes (in_turn (Forms.filtered frame) (map Node ps) ms f)
   nodes_after [] ps f = (ps, refl)
   nodes_after (m ∷ ms) ps f =

@@ -22,7 +22,8 @@ use Rattle.xq_meaning.specs.PlanMeaning.{Frame, Meaning, plan_mean}
 use Rattle.xq_meaning.specs.Same.{frame_of}
 use Rattle.xq_meaning.proofs.PlanEquations as plan_eq
 use Rattle.xq_optimise.specs.declared.held.Held.{Held}
-use Rattle.xq_optimise.specs.Sure.{IsText, SurelyNodes, SurelyTexts, SurelyTells}
+use Rattle.xq_optimise.specs.Known.{IsText}
+use Rattle.xq_optimise.specs.Sure.{SurelyNodes, SurelyTexts, SurelyTells}
 use Rattle.xq_optimise.specs.private.Parts.{general_comparison}
 
 -- # Texts compare

@@ -2,7 +2,6 @@
 use Rattle.std.proofs.Common.{suc}
 use Rattle.std.specs.Prelude.{◌≡◌, ℕ, List, ◌++◌, map, Bool, true, Option, Some, Ok}
 use Rattle.std.specs.List.{AllByRecursion}
-use Rattle.xq_atoms.specs.Atom.{Atomic, String, Untyped, Integer, Decimal, Boolean}
 use Rattle.xq_atoms.specs.Text.{Text}
 use Rattle.xq_trees.specs.Tree.{Tree}
 use Rattle.xq_meaning.specs.declared.plans.Plan.{Plan}
@@ -14,15 +13,7 @@ use Rattle.xq_meaning.specs.Operators.{keeps}
 use Rattle.xq_meaning.specs.PlanMeaning.{Slots, Meaning, plan_mean}
 use Rattle.xq_meaning.specs.Same.{frame_of}
 use Rattle.xq_optimise.specs.declared.held.Held.{Held}
-use Rattle.xq_optimise.specs.Known.{Fits}
-
--- a string or an untyped value
-abbrev pub IsText : Atomic → Type 0
-IsText (Integer n) = ⊥
-IsText (Decimal m) = ⊥
-IsText (String t) = Unit {0}
-IsText (Boolean b) = ⊥
-IsText (Untyped t) = Unit {0}
+use Rattle.xq_optimise.specs.Known.{IsText, Fits}
 
 -- the part gives nodes, and leaves the trees as they are
 abbrev pub SurelyNodes : List Held → Plan → Type 0

@@ -4,20 +4,21 @@ ghost use Rattle.std.specs.Prelude.{◌≡◌, ◌<◌, false, IfOk, IfSome};
 ghost use Rattle.xq_trees.specs.declared.Kind.TheVariants.{Document};
 ghost use Rattle.xq_atoms.specs.Text.{Text as TextLem};
 ghost use Rattle.xq_meaning.specs.Steps.{passes};
-ghost use Rattle.xq_optimise.specs.private.Filters.{LeadsTo, IsSide, ComparesItems, IsFilterGroup};
+ghost use Rattle.xq_optimise.specs.private.Filters.{LeadsTo, IsSide, ComparesItems, IsFilterGroup, IsStepGroup};
 
 use crate::held::Held;
 use crate::joins::{as_equal, join_key, may_give_texts, scans_of};
 use crate::kinds::gives_nodes;
-use crate::outside::reads_outside;
+use crate::outside::{reads_outside, steps_read_outside};
+use crate::predicates::is_item_test;
 use sqlite_items::Items;
 use std::alloc::{AllocError, Global};
-use xq_meaning::{Join, JoinKey, KeyForm, Plan, Test};
+use xq_meaning::{Join, JoinKey, KeyForm, Plan, PlanStep, Test};
 use xq_plan::copied_test;
 use xq_trees::Axis;
 
 /// Whether a document node may pass the test.
-fn passes_documents(test: &Test) -> bool
+pub fn passes_documents(test: &Test) -> bool
     ensures { result ≡ false → (name : TextLem) → passes test.now Document name ≡ false }
 {
     match test {
@@ -66,13 +67,13 @@ fn focus_scans(alloc: Global, plan: &Plan) -> Result<Option<Items<(Axis, Test)>>
     Ok(Some(scans))
 }
 
-/// Whether the scans are one to attributes. Their values are kept, so that those with one value are
-/// found without a table.
-fn are_of_attribute(scans: &[(Axis, Test)]) -> bool {
-    match scans {
-        [(Axis::Attributes, _)] => true,
-        _ => false,
-    }
+/// Whether the keys are an attribute of the item and a value of the tuple. The values of attributes
+/// are kept, so that those with one value are found without a table.
+fn are_kept(next: usize, item: &JoinKey, tuple: &JoinKey) -> bool {
+    let [(Axis::Attributes, _)] = item.scans.as_slice() else {
+        return false;
+    };
+    item.slot == next && matches!(tuple.form, KeyForm::Value)
 }
 
 /// The key of the item in focus that a part is, where the item is in the next slot of so many.
@@ -82,9 +83,6 @@ fn focus_key(alloc: Global, next: usize, plan: &Plan) -> Result<Option<JoinKey>,
     let Some(scans) = focus_scans(alloc, plan)? else {
         return Ok(None);
     };
-    if are_of_attribute(scans.as_slice()) {
-        return Ok(None);
-    }
     Ok(Some(JoinKey {
         slot: next,
         scans,
@@ -141,6 +139,9 @@ fn join_of(alloc: Global, next: usize, test: &Plan) -> Result<Option<Join>, Allo
     let Some((left, right)) = compared_keys(alloc, next, equal.left, equal.right)? else {
         return Ok(None);
     };
+    if are_kept(next, &left, &right) || are_kept(next, &right, &left) {
+        return Ok(None);
+    }
     Ok(Some(Join {
         carried: None,
         equality: equal.equality,
@@ -165,6 +166,32 @@ pub fn filter_join(
         return Ok(None);
     };
     if !gives_nodes(known, start) || !may_give_texts(start) || !reads_outside(outer, start) {
+        return Ok(None);
+    }
+    join_of(alloc, known.len(), test)
+}
+
+/// The keys of a join that keeps of what a step finds after a path the nodes that its predicates
+/// keep, where there is one, the predicates are never refused, and the path reads no slot of the
+/// tuples.
+pub fn step_join(
+    alloc: Global,
+    known: &[Held],
+    outer: usize,
+    start: &Plan,
+    steps: &[PlanStep],
+    predicates: &[Plan],
+) -> Result<Option<Join>, AllocError>
+    ensures { IfOk result (λ found. IfSome found (λ join.
+        IsStepGroup outer known.now start.now steps.now predicates.now join)) }
+{
+    let [test] = predicates else {
+        return Ok(None);
+    };
+    if !is_item_test(known, test) {
+        return Ok(None);
+    }
+    if !reads_outside(outer, start) || !steps_read_outside(outer, steps) {
         return Ok(None);
     }
     join_of(alloc, known.len(), test)

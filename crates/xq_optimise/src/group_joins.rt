@@ -2,16 +2,19 @@
 //! key of each item (XQuery 3.1, sections 3.3.3, 3.12.2, 3.12.3 and 3.12.5).
 ghost use Rattle.std.specs.Prelude.{◌≡◌, ◌∷◌, ◌++◌, [], length, true, IfOk};
 ghost use Rattle.xq_meaning.specs.declared.plans.Plan.TheVariants as plan_of;
+ghost use Rattle.xq_meaning.specs.declared.plans.PlanStep.TheVariants as step_of;
+ghost use Rattle.xq_optimise.specs.declared.group_joins.LetValue.TheVariants as let_value_of;
 ghost use Rattle.xq_optimise.specs.private.GroupValues.{AddsValue, IsGroup, IsLetOf};
 
-use crate::filters::filter_join;
+use crate::filters::{filter_join, step_join};
 use crate::held::Held;
 use crate::outside::reads_outside;
 use crate::some_pairs::is_slot;
 use crate::wheres::pushed;
 use sqlite_items::{Boxed, Items};
 use std::alloc::{AllocError, Global};
-use xq_meaning::{Join, Plan, PlanClause};
+use xq_meaning::{Join, Plan, PlanClause, PlanStep, Test};
+use xq_trees::Axis;
 
 /// How many clauses are looked at for one that gives several tuples, so that the time for a list is
 /// in proportion to it.
@@ -24,6 +27,13 @@ pub enum LetValue {
     Group(Plan, Join),
     /// Any other.
     Other(Plan),
+}
+
+/// A path without its last step.
+#[derive(Drop)]
+struct Before {
+    start: Boxed<Plan>,
+    steps: Items<PlanStep>,
 }
 
 /// Whether one of the first clauses may give several tuples: a table for one is not worth making.
@@ -94,6 +104,89 @@ fn filter_value(
     }
 }
 
+/// The value of a path whose last step is one with predicates.
+fn step_value(
+    alloc: Global,
+    known: &[Held],
+    outer: usize,
+    path: Before,
+    axis: Axis,
+    test: Test,
+    predicates: Items<Plan>,
+) -> Result<LetValue, AllocError>
+    ensures { IfOk result (λ found. IsLetOf outer known.now (plan_of.Path path.start (path.steps
+        ++ step_of.Each (plan_of.Step axis test predicates) ∷ [])) found) }
+{
+    let Before { start, mut steps } = path;
+    let found = step_join(
+        alloc,
+        known,
+        outer,
+        start.get(),
+        steps.as_slice(),
+        predicates.as_slice(),
+    )?;
+    match found {
+        Some(join) => {
+            steps.push(PlanStep::Scan(axis, test))?;
+            Ok(LetValue::Group(Plan::Path(start, steps), join))
+        }
+        None => {
+            steps.push(PlanStep::Each(Plan::Step(axis, test, predicates)))?;
+            Ok(LetValue::Other(Plan::Path(start, steps)))
+        }
+    }
+}
+
+/// The value of a path whose last step is a part for each node.
+fn each_value(
+    alloc: Global,
+    known: &[Held],
+    outer: usize,
+    path: Before,
+    part: Plan,
+) -> Result<LetValue, AllocError>
+    ensures { IfOk result (λ found. IsLetOf outer known.now
+        (plan_of.Path path.start (path.steps ++ step_of.Each part ∷ [])) found) }
+{
+    match part {
+        Plan::Step(axis, test, predicates) => {
+            step_value(alloc, known, outer, path, axis, test, predicates)
+        }
+        other => whole_path(path, PlanStep::Each(other)),
+    }
+}
+
+/// The value of a path with this last step, as it is.
+fn whole_path(path: Before, last: PlanStep) -> Result<LetValue, AllocError>
+    ensures { IfOk result (λ found. found
+        ≡ let_value_of.Other (plan_of.Path path.start (path.steps ++ last ∷ []))) }
+{
+    let Before { start, mut steps } = path;
+    steps.push(last)?;
+    Ok(LetValue::Other(Plan::Path(start, steps)))
+}
+
+/// The value of a path.
+fn path_value(
+    alloc: Global,
+    known: &[Held],
+    outer: usize,
+    start: Boxed<Plan>,
+    steps: Items<PlanStep>,
+) -> Result<LetValue, AllocError>
+    ensures { IfOk result (λ found. IsLetOf outer known.now (plan_of.Path start steps) found) }
+{
+    let mut steps = steps;
+    match steps.pop() {
+        Some(PlanStep::Each(part)) => {
+            each_value(alloc, known, outer, Before { start, steps }, part)
+        }
+        Some(last) => whole_path(Before { start, steps }, last),
+        None => Ok(LetValue::Other(Plan::Path(start, steps))),
+    }
+}
+
 /// The value that a part gives at each tuple, where so many slots are outside.
 pub fn let_value(
     alloc: Global,
@@ -106,6 +199,7 @@ pub fn let_value(
     match value {
         Plan::Flwor(list, part) => flwor_value(known, outer, list, part),
         Plan::Filter(start, predicates) => filter_value(alloc, known, outer, start, predicates),
+        Plan::Path(start, steps) => path_value(alloc, known, outer, start, steps),
         value => Ok(LetValue::Other(value)),
     }
 }

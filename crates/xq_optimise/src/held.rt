@@ -5,5 +5,13 @@
 pub enum Held {
     /// Nodes alone, or nothing.
     Nodes,
+    /// A node, or nothing.
+    Node,
+    /// Strings and untyped values alone, or nothing.
+    Texts,
+    /// A string or an untyped value, or nothing.
+    Text,
+    /// An item, or nothing.
+    Item,
     Anything,
 }

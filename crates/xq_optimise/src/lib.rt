@@ -13,6 +13,7 @@ mod held;
 mod joins;
 mod kinds;
 mod lists;
+mod narrow;
 mod nested;
 mod order;
 mod outside;

@@ -6,14 +6,15 @@ ghost use Rattle.xq_optimise.specs.private.Order.{IsPassed, Rises, SameRest, Sam
 ghost use Rattle.xq_optimise.specs.private.Parts as parts;
 
 use crate::held::Held;
-use crate::kinds::held_by;
+use crate::kinds::{held_by, of_each};
 use crate::lists::reversed;
+use crate::narrow::narrowed;
 use crate::scopes::{bind, forget};
 use crate::sure::{as_comparison, is_nodes, is_test};
 use crate::written::written;
 use sqlite_items::{Boxed, Items};
 use std::alloc::{AllocError, Global};
-use xq_expressions::Relation;
+use xq_expressions::{AllowingEmpty, Relation};
 use xq_meaning::{Plan, PlanClause};
 
 /// How many clauses a test goes over at most, so that the time for a list is in proportion to it.
@@ -157,9 +158,9 @@ pub fn follow(known: &mut Vec<Held>, outer: usize, next: &PlanClause) -> Result<
     match next {
         PlanClause::For(_, at, range) => {
             let held = held_by(known, range);
-            bind(known, held, *at)
+            bind(known, of_each(held), *at)
         }
-        PlanClause::Join(_, _) => bind(known, Held::Anything, false),
+        PlanClause::Join(_, _) => bind(known, Held::Item, false),
         PlanClause::GroupJoin(_, _) => bind(known, Held::Anything, false),
         PlanClause::Let(value) => {
             let held = held_by(known, value);
@@ -173,19 +174,21 @@ pub fn follow(known: &mut Vec<Held>, outer: usize, next: &PlanClause) -> Result<
     }
 }
 
-/// Whether a clause stands before the first equality that may go over it.
-fn have_late_equality(list: &[PlanClause]) -> bool {
-    let mut may_pass = false;
+/// Whether a test that compares may go over a clause before it, or stands behind a `for`, so that it
+/// may be a predicate.
+fn have_moving_test(list: &[PlanClause]) -> bool {
+    let mut may_move = false;
     for clause in list {
         match clause {
             PlanClause::Where(test) => {
-                if may_pass && is_equality(test) {
+                if may_move && as_comparison(test).is_some() {
                     return true;
                 }
-                may_pass = !is_equality(test);
+                may_move = !is_equality(test);
             }
-            PlanClause::Let(_) => may_pass = true,
-            _ => may_pass = false,
+            PlanClause::Let(_) => may_move = true,
+            PlanClause::For(AllowingEmpty::No, false, _) => may_move = true,
+            _ => may_move = false,
         }
     }
     false
@@ -201,20 +204,21 @@ pub fn arranged(
         SameTurns (length known.old.items) known.old.items list found) }
     ensures kept { OnOk result (known.new.items ≡ known.old.items) }
 {
-    if !have_late_equality(list.as_slice()) {
+    if !have_moving_test(list.as_slice()) {
         return Ok(list);
     }
     let outer = known.len();
     let turned = reversed(alloc, list)?;
     let first = risen(alloc, known, turned)?;
-    let mut left = first;
+    let mut left = narrowed(alloc, known, first)?;
     let mut found = Items::new(alloc);
     while let Some(next) = left.pop() {
         // (boxed, since one call then drops it where memory is wanting)
         let next = Boxed::new(alloc, next)?;
         follow(known, outer, next.get())?;
         found.push(next.into_inner())?;
-        left = risen(alloc, known, left)?;
+        let risen = risen(alloc, known, left)?;
+        left = narrowed(alloc, known, risen)?;
     }
     known.truncate(outer);
     Ok(found)

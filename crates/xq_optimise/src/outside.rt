@@ -73,7 +73,7 @@ fn operands_read_outside(outer: usize, operands: &[(Operator, Plan)]) -> bool
 
 /// Whether what follows each slash does.
 #[cycle(outside)]
-fn steps_read_outside(outer: usize, steps: &[PlanStep]) -> bool
+pub fn steps_read_outside(outer: usize, steps: &[PlanStep]) -> bool
     ensures { result ≡ true → AllByRecursion (StepOutside outer) steps.now }
 {
     for step in steps {

@@ -13,10 +13,10 @@ ghost use Rattle.xq_optimise.specs.private.Parts.{AddsPredicates, IsPlainStep};
 ghost use Rattle.xq_optimise.specs.private.Positions.{TestsPosition};
 
 use crate::held::Held;
-use crate::kinds::{are_scans, held_by};
+use crate::kinds::{are_scans, gives_nodes};
 use crate::lists::reversed;
 use crate::positions::position_test;
-use crate::sure::{as_comparison, is_nodes};
+use crate::sure::{as_comparison, is_nodes, is_slot_texts};
 use sqlite_items::Items;
 use std::alloc::{AllocError, Global};
 use xq_expressions::Relation;
@@ -69,7 +69,8 @@ fn finds_nodes(plan: &Plan) -> bool
     }
 }
 
-/// Whether the part is a string literal, or nodes by steps from the node in focus or from a slot.
+/// Whether the part is a string literal, nodes by steps from the node in focus or from a slot, or
+/// texts from a slot.
 fn finds_texts(known: &[Held], plan: &Plan) -> bool
     ensures { result ≡ true → sure.SurelyFindsTexts known.now plan.now }
 {
@@ -79,7 +80,10 @@ fn finds_texts(known: &[Held], plan: &Plan) -> bool
             if finds_nodes(plan) {
                 return true;
             }
-            is_nodes(known, plan)
+            if is_nodes(known, plan) {
+                return true;
+            }
+            is_slot_texts(known, plan)
         }
     }
 }
@@ -335,8 +339,9 @@ pub fn spliced_after(
         GivesSame known.now (plan_of.Filter start.now predicates)
         (plan_of.Filter start.now found)) }
 {
-    match held_by(known, start) {
-        Held::Nodes => spliced(alloc, known, predicates),
-        Held::Anything => Ok(predicates),
+    if gives_nodes(known, start) {
+        spliced(alloc, known, predicates)
+    } else {
+        Ok(predicates)
     }
 }

@@ -3,11 +3,12 @@
 ghost use Rattle.std.specs.Prelude.{◌≡◌, true, IfSome};
 ghost use Rattle.std.specs.List.{AllByRecursion};
 ghost use Rattle.xq_optimise.specs.Sure.{SurelyNodes, SurelyTexts, ReadsBelow, IgnoresFocus, IsTest};
+ghost use Rattle.xq_optimise.specs.private.Kinds.{IsSlotOfOne, AreSlotTexts};
 ghost use Rattle.xq_optimise.specs.private.Parts.{general_comparison};
 
 use crate::held::Held;
-use crate::kinds::{are_scans, has_nodes};
-use xq_expressions::{ComparisonOperator, Relation};
+use crate::kinds::{are_scans, has_nodes, has_one, has_texts};
+use xq_expressions::{ComparisonOperator, Function, Relation};
 use xq_meaning::{Operator, Plan};
 
 /// A general comparison of two parts.
@@ -57,14 +58,43 @@ pub fn is_nodes(known: &[Held], plan: &Plan) -> bool
     }
 }
 
-/// Whether the part is a string literal, or nodes by scans from a slot.
+/// Whether there is one part, a slot with at most one item.
+fn is_slot_of_one(known: &[Held], parts: &[Plan]) -> bool
+    ensures { result ≡ true → IsSlotOfOne known.now parts.now }
+{
+    let [Plan::Slot(slot)] = parts else {
+        return false;
+    };
+    has_one(known, *slot)
+}
+
+/// Whether the part is a slot of texts, or the string of a slot with at most one item.
+pub fn is_slot_texts(known: &[Held], plan: &Plan) -> bool
+    ensures { result ≡ true → AreSlotTexts known.now plan.now }
+{
+    match plan {
+        Plan::Slot(slot) => has_texts(known, *slot),
+        Plan::Call(function, parts) => match function {
+            Function::String => is_slot_of_one(known, parts.as_slice()),
+            _ => false,
+        },
+        _ => false,
+    }
+}
+
+/// Whether the part is a string literal, nodes by scans from a slot, or texts from one.
 pub fn is_texts(known: &[Held], plan: &Plan) -> bool
     ensures sure { result ≡ true → SurelyTexts known.now plan.now }
     ensures below { result ≡ true → ReadsBelow known.now plan.now }
 {
     match plan {
         Plan::Str(_) => true,
-        _ => is_nodes(known, plan),
+        _ => {
+            if is_nodes(known, plan) {
+                return true;
+            }
+            is_slot_texts(known, plan)
+        }
     }
 }
 

@@ -8,7 +8,7 @@ ghost use Rattle.xq_optimise.specs.private.Parts as parts;
 use crate::group_joins::with_value;
 use crate::held::Held;
 use crate::joins::with_joins;
-use crate::kinds::held_by;
+use crate::kinds::{held_by, of_each};
 use crate::lists::reversed;
 use crate::nested::goes_on;
 use crate::order::arranged;
@@ -236,7 +236,7 @@ fn ranges(
         let range = expression(alloc, known, range)?;
         let held = held_by(known, &range);
         found.push(range)?;
-        bind(known, held, false)?;
+        bind(known, of_each(held), false)?;
     }
     Ok(found)
 }
@@ -367,11 +367,11 @@ fn clause(
             let range = expression(alloc, known, range)?;
             let held = held_by(known, &range);
             let found = pushed(found, PlanClause::For(empties, at, range))?;
-            bind(known, held, at)?;
+            bind(known, of_each(held), at)?;
             Ok(found)
         }
         PlanClause::Join(range, join) => {
-            known.push(Held::Anything)?;
+            known.push(Held::Item)?;
             pushed(found, PlanClause::Join(range, join))
         }
         PlanClause::GroupJoin(range, join) => {

@@ -63,7 +63,7 @@ fn path_from(alloc: Global, slot: usize, scans: Items<(Axis, Test)>) -> Result<P
 }
 
 /// The steps that are these scans.
-fn steps_of(alloc: Global, scans: Items<(Axis, Test)>) -> Result<Items<PlanStep>, AllocError>
+pub fn steps_of(alloc: Global, scans: Items<(Axis, Test)>) -> Result<Items<PlanStep>, AllocError>
     ensures { IfOk result (λ found. found ≡ map scan_step scans) }
 {
     let mut left = reversed(alloc, scans)?;
@@ -141,12 +141,17 @@ fn written_side(
     }
 }
 
-/// The general comparison of two parts for equality.
-fn equality(alloc: Global, left: Plan, right: Plan) -> Result<Plan, AllocError>
-    ensures { IfOk result (λ found. found ≡ general_comparison relation_of.Equal left right) }
+/// The general comparison of two parts.
+pub fn comparison(
+    alloc: Global,
+    relation: Relation,
+    left: Plan,
+    right: Plan,
+) -> Result<Plan, AllocError>
+    ensures { IfOk result (λ found. found ≡ general_comparison relation left right) }
 {
     let first = Boxed::new(alloc, left)?;
-    let operator = Operator::Comparison(ComparisonOperator::General(Relation::Equal));
+    let operator = Operator::Comparison(ComparisonOperator::General(relation));
     let mut rest = Items::new(alloc);
     rest.push((operator, right))?;
     Ok(Plan::Chain(first, rest))
@@ -178,5 +183,5 @@ pub fn written(
     let Some(right) = written_side(alloc, known, passed, found.right)? else {
         return Ok(None);
     };
-    Ok(Some(equality(alloc, left, right)?))
+    Ok(Some(comparison(alloc, Relation::Equal, left, right)?))
 }

@@ -1,19 +1,21 @@
 -- What a predicate that compares a key of each item is to a join.
 use Rattle.std.specs.Prelude.{◌≡◌, ℕ, List, [], ◌∷◌, length, None}
+use Rattle.std.specs.List.{AllByRecursion}
 use Rattle.xq_trees.specs.declared.Axis.{Axis}
 use Rattle.xq_trees.specs.Tree.{Tree}
 use Rattle.xq_meaning.specs.declared.joins.Join.{Join}
 use Rattle.xq_meaning.specs.declared.joins.JoinKey.{JoinKey}
 use Rattle.xq_meaning.specs.declared.node_tests.Test.{Test}
 use Rattle.xq_meaning.specs.declared.plans.Plan.{Plan}
+use Rattle.xq_meaning.specs.declared.plans.PlanStep.{PlanStep}
 use Rattle.xq_meaning.specs.Doing.{in_turn}
 use Rattle.xq_meaning.specs.Forms
 use Rattle.xq_meaning.specs.Items.{Place, Node}
 use Rattle.xq_meaning.specs.PlanMeaning.{Frame, opened, key_mean, plan_mean}
 use Rattle.xq_optimise.specs.declared.held.Held.{Held}
 use Rattle.xq_optimise.specs.declared.held.Held.TheVariants.{Nodes}
-use Rattle.xq_optimise.specs.Sure.{on_node}
-use Rattle.xq_optimise.specs.private.Joins.{IsOutside, equal_plan}
+use Rattle.xq_optimise.specs.Sure.{on_node, SurelyKeeps}
+use Rattle.xq_optimise.specs.private.Joins.{IsOutside, StepOutside, equal_plan}
 use Rattle.xq_optimise.specs.private.Parts.{IsHeld}
 
 -- the frame with a node in focus
@@ -45,6 +47,13 @@ abbrev pub ComparesItems : ℕ → Join → Plan → Type 0
 ComparesItems next join p =
     (a b : Plan) × (p ≡ equal_plan join.equality a b) × (join.carried ≡ None)
     × IsSide next join.left a × IsSide next join.right b
+
+-- a path reads no slot of the tuples, and one predicate, which keeps of the nodes of a step after it
+-- and is never refused, compares a key of each
+abbrev pub IsStepGroup : ℕ → List Held → Plan → List PlanStep → List Plan → Join → Type 0
+IsStepGroup outer known start steps ps join =
+    (p : Plan) × (ps ≡ p ∷ []) × SurelyKeeps known p × IsOutside outer start
+    × AllByRecursion (StepOutside outer) steps × ComparesItems (length known) join p
 
 -- the part gives nodes and reads no slot of the tuples, and one predicate compares a key of each
 abbrev pub IsFilterGroup : ℕ → List Held → Plan → List Plan → Join → Type 0

@@ -1,5 +1,5 @@
 -- What the parts of a plan are to those of the plan that it becomes, where the slots are as known.
-use Rattle.std.specs.Prelude.{◌≡◌, ◌≤◌, ℕ, List, [], ◌∷◌, ◌++◌, map, length, take, replicate, ◌-◌, Bool, true, false, Option, Ok, Err}
+use Rattle.std.specs.Prelude.{◌≡◌, ◌≤◌, ℕ, List, [], ◌∷◌, ◌++◌, map, length, take, replicate, ◌-◌, Bool, true, false, Option, Some, slice_get, Ok, Err}
 use Rattle.std.specs.List.{AllByRecursion}
 use Rattle.xq_atoms.specs.Text.{Text}
 use Rattle.xq_expressions.specs.declared.operators.OrderModifier.{OrderModifier}
@@ -25,7 +25,7 @@ use Rattle.xq_meaning.specs.PlanMeaning.{Slots, next_clause, plan_mean, plan_cla
 use Rattle.xq_meaning.specs.Same.{frame_of}
 use Rattle.xq_optimise.specs.declared.held.Held.{Held}
 use Rattle.xq_optimise.specs.declared.held.Held.TheVariants.{Anything}
-use Rattle.xq_optimise.specs.Known.{Holds, Fits}
+use Rattle.xq_optimise.specs.Known.{Holds, Fits, each_of}
 use Rattle.xq_optimise.specs.Same.{GivesSame}
 use Rattle.xq_optimise.specs.Sure.{SamePredicates}
 
@@ -76,14 +76,13 @@ IsHeld known held p =
     (slots : Slots) (focus : Option Focus) (addresses : List Text) (trees : List Tree) →
     Fits known slots → GivesHeld held (plan_mean p (frame_of slots focus addresses) trees)
 
+-- this is known of the slot
+abbrev pub IsKnown : (Held → Type 0) → List Held → ℕ → Type 0
+IsKnown P known n = (held : Held) × (slice_get known n ≡ Some held) × P held
+
 -- a step without predicates, after a slash
 abbrev pub IsScan : PlanStep → Type 0
 IsScan s = (axis : Axis) × (test : Test) × (s ≡ step.Scan axis test)
-
--- there are steps, and the last one is such a scan
-abbrev pub EndsInScan : List PlanStep → Type 0
-EndsInScan steps =
-    (before : List PlanStep) × (s : PlanStep) × (steps ≡ before ++ s ∷ []) × IsScan s
 
 -- a general comparison of two parts
 abbrev pub general_comparison : Relation → Plan → Plan → Plan
@@ -101,7 +100,7 @@ abbrev pub SameRanges : List Held → List Plan → List Plan → List Held → 
 SameRanges known [] [] last = last ≡ known
 SameRanges known (p ∷ ps) (q ∷ qs) last =
     (held : Held) × GivesSame known p q × IsHeld known held p
-    × SameRanges (known ++ held ∷ []) ps qs last
+    × SameRanges (known ++ each_of held ∷ []) ps qs last
 SameRanges known ps qs last = ⊥
 
 -- # FLWOR

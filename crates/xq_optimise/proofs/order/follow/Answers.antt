@@ -1,6 +1,7 @@
-use Rattle.std.proofs.Common.{refl, subst}
+use Rattle.std.proofs.Common.{◌≡◌, ◌++◌, refl, subst}
 use Rattle.std.proofs.lemmas.Result.{on_ok_weaker}
-use Rattle.xq_optimise.specs.private.Parts.{IsHeld}
+use Rattle.xq_optimise.specs.declared.held.Held.{Held}
+use Rattle.xq_optimise.specs.private.Parts.{IsHeld, with_position}
 use Rattle.xq_optimise.proofs.JoinLaws.{join_itself}
 use Rattle.xq_optimise.proofs.GroupJoins.{group_join_itself}
 use Rattle.xq_optimise.proofs.Rising.{for_itself, let_itself, where_itself, order_itself, count_itself, group_itself, refused_itself}
@@ -9,8 +10,9 @@ use Rattle.xq_optimise.proofs.order.follow.Goals as goal
 pub returns-in-For-clause-same : goal.returns-in-For-clause-same
 returns-in-For-clause-same c =
     on_ok_weaker c.bind.result
-    (for_itself c.args.outer c.args.known.now.items c.bind.new.known.items c.args.next.now c.in-For.field-0 c.in-For.at c.in-For.range c.held_by-held.result c.in-For.is
-    (subst (λ k. IsHeld k c.held_by-held.result c.in-For.range) c.deref.ensures.value c.held_by-held.ensures)) c.bind.ensures
+    (λ bound. for_itself c.args.outer c.args.known.now.items c.bind.new.known.items c.args.next.now c.in-For.field-0 c.in-For.at c.in-For.range c.held_by-held.result c.in-For.is
+    (subst (λ k. IsHeld k c.held_by-held.result c.in-For.range) c.deref.ensures.value c.held_by-held.ensures)
+    (subst (λ (h : Held). c.bind.new.known.items ≡ c.args.known.now.items ++ with_position h c.in-For.at) c.of_each.ensures bound)) c.bind.ensures
 
 pub returns-in-Join-clause-same : goal.returns-in-Join-clause-same
 returns-in-Join-clause-same c =

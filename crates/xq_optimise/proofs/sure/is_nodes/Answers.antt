@@ -1,6 +1,5 @@
 use Rattle.std.proofs.Common.{refl, sym, subst, ◌∙◌}
 use Rattle.std.specs.List.{AllByRecursion}
-use Rattle.xq_optimise.specs.declared.held.Held.TheVariants.{Nodes}
 use Rattle.xq_optimise.specs.Sure.{SurelyNodes, ReadsBelow, IgnoresFocus}
 use Rattle.xq_optimise.specs.private.Parts.{IsScan}
 use Rattle.xq_optimise.proofs.Scans.{slot_surely}
@@ -13,7 +12,7 @@ returns-in-Slot-clause-sure c = λ e.
 
 pub returns-in-Slot-clause-below : goal.returns-in-Slot-clause-below
 returns-in-Slot-clause-below c = λ e.
-    subst (ReadsBelow c.args.known.now) (sym c.in-Slot.is) (slot_below c.args.known.now c.in-Slot.slot Nodes (c.has_nodes.ensures e))
+    subst (ReadsBelow c.args.known.now) (sym c.in-Slot.is) (slot_below c.args.known.now c.in-Slot.slot (c.has_nodes.ensures e).0 (c.has_nodes.ensures e).1)
 
 pub returns-then-has_nodes-clause-sure : goal.returns-then-has_nodes-clause-sure
 returns-then-has_nodes-clause-sure c = λ e.

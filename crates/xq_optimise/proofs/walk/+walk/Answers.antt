@@ -1,4 +1,4 @@
-use Rattle.std.proofs.Common.{◌≡◌, ◌<◌, ◌+◌, ◌*◌, List, sym, ◌∙◌, subst, refl, arith}
+use Rattle.std.proofs.Common.{◌≡◌, ◌++◌, ◌∷◌, [], ◌<◌, ◌+◌, ◌*◌, List, sym, ◌∙◌, subst, refl, arith}
 use Rattle.xq_meaning.specs.declared.plans.Plan.{Plan}
 use Rattle.xq_meaning.specs.declared.plans.Plan.TheVariants as plan
 use Rattle.xq_meaning.specs.declared.plans.PlanClause.{PlanClause}
@@ -10,7 +10,7 @@ use Rattle.std.proofs.lemmas.Result.{IfOk-weaker, on_ok_weaker}
 use Rattle.xq_optimise.specs.declared.held.Held.{Held}
 use Rattle.xq_optimise.specs.Same.{GivesSame}
 use Rattle.xq_optimise.specs.Sure.{SamePredicates}
-use Rattle.xq_optimise.specs.private.Parts.{SameOperand, SameCall, SameKey, SameStep, SameClauses, IsHeld, Extends, AddsTests}
+use Rattle.xq_optimise.specs.private.Parts.{SameOperand, SameCall, SameKey, SameStep, SameClauses, IsHeld, Extends, AddsTests, with_position}
 use Rattle.xq_optimise.proofs.Forms as forms
 use Rattle.xq_optimise.proofs.Forms.{gives_at, known_at, all_known_at, itself, step_itself, each_gives}
 use Rattle.xq_optimise.proofs.Flwor.{flwor_gives}
@@ -187,7 +187,8 @@ pub ranges-loop-range-preserved : goal.ranges-loop-range-preserved
 ranges-loop-range-preserved t c =
     range_next c.args.list c.loop-range.left.items c.pop.new.self.items c.args.known.now.items c.expression.new.known.items c.loop-range.known.items c.bind.new.known.items c.loop-range.found c.push.new.self c.in-Some.range c.in_ok-range.range
     c.loop-range.invariant c.in-Some.ensures.items c.in_ok-range.ensures.same c.in_ok-range.ensures.kept c.held_by-held.result
-    (subst (λ k. IsHeld k c.held_by-held.result c.in_ok-range.range) c.deref.ensures.value c.held_by-held.ensures) c.in_ok-bind.ensures c.in_ok-push.ensures.ok
+    (subst (λ k. IsHeld k c.held_by-held.result c.in_ok-range.range) c.deref.ensures.value c.held_by-held.ensures)
+    (subst (λ (h : Held). c.bind.new.known.items ≡ c.expression.new.known.items ++ h ∷ []) c.of_each.ensures c.in_ok-bind.ensures) c.in_ok-push.ensures.ok
 
 -- # Clauses
 
@@ -276,7 +277,8 @@ clause-returns-in_ok-bind-in-For-clause-same t c =
     adds_at c.args.outer c.args.known.now.items c.args.next (clause.For c.in-For.empties c.in-For.at c.in-For.range) c.args.found c.in_ok-found-in-For.found c.bind.new.known.items c.in-For.is
     (for_adds c.args.outer c.args.known.now.items c.expression.new.known.items c.bind.new.known.items c.in-For.empties c.in-For.at c.in-For.range c.in_ok-range-in-For.range c.args.found c.in_ok-found-in-For.found
     c.in_ok-range-in-For.ensures.same c.in_ok-range-in-For.ensures.kept c.held_by-held.result
-    (subst (λ k. IsHeld k c.held_by-held.result c.in_ok-range-in-For.range) c.deref.ensures.value c.held_by-held.ensures) c.in_ok-bind-in-For.ensures c.in_ok-found-in-For.ensures)
+    (subst (λ k. IsHeld k c.held_by-held.result c.in_ok-range-in-For.range) c.deref.ensures.value c.held_by-held.ensures)
+    (subst (λ (h : Held). c.bind.new.known.items ≡ c.expression.new.known.items ++ with_position h c.in-For.at) c.of_each.ensures c.in_ok-bind-in-For.ensures) c.in_ok-found-in-For.ensures)
 
 pub clause-returns-in_ok-bind-in-Let-clause-same : goal.clause-returns-in_ok-bind-in-Let-clause-same
 clause-returns-in_ok-bind-in-Let-clause-same t c =

@@ -14,5 +14,5 @@ returns c =
     let r = c.in-Some.found.right.now in
     let left = subst (λ (o : Option Plan). IfSome o (λ part. SurelyNodes known part × ReadsBelow known part × SameAfter known passed l part)) c.in-Some-2.is c.in_ok-left.ensures in
     let right = subst (λ (o : Option Plan). IfSome o (λ part. SurelyNodes known part × ReadsBelow known part × SameAfter known passed r part)) c.in-Some-3.is c.in_ok-right.ensures in
-    written_stands known passed c.args.next.now c.in-Where.test l r c.in-Some-2.left c.in-Some-3.right c.in_ok-equality.field-0 c.in-Some.found.relation
-    c.in-Where.is c.in-Some.ensures c.in-Equal.is left right c.in_ok-equality.ensures c.requires
+    written_stands known passed c.args.next.now c.in-Where.test l r c.in-Some-2.left c.in-Some-3.right c.in_ok-comparison.field-0 c.in-Some.found.relation
+    c.in-Where.is c.in-Some.ensures c.in-Equal.is left right c.in_ok-comparison.ensures c.requires
