@@ -1,10 +1,10 @@
 -- Keys of a join whose atoms are texts: what they give, and whether two of them are equal.
-use Rattle.std.proofs.Common.{◌≡◌, ◌≤◌, ◌<◌, List, [], ◌∷◌, ◌++◌, map, length, Bool, true, false, ◌||◌, Ok, Err, inl, inr, refl, sym, ◌∙◌, ap, subst, arith}
+use Rattle.std.proofs.Common.{◌≡◌, ◌≤◌, List, [], ◌∷◌, ◌++◌, map, length, Bool, false, ◌||◌, Ok, Err, inl, inr, refl, sym, ◌∙◌, ap, subst, arith}
 use Rattle.std.specs.List.{AllByRecursion, list_any}
 use Rattle.xq_atoms.specs.declared.comparisons.CompOp.TheVariants as comp
 use Rattle.xq_atoms.specs.Atom.{Atomic, Integer, Decimal, String, Boolean, Untyped}
 use Rattle.xq_atoms.specs.Cast.{text_of}
-use Rattle.xq_atoms.specs.Compare.{compare_value, compare_general}
+use Rattle.xq_atoms.specs.Compare.{compare_value}
 use Rattle.xq_atoms.specs.Judged.{◌>>=◌}
 use Rattle.xq_atoms.specs.Text.{Text, text_eq}
 use Rattle.xq_trees.specs.declared.Axis.{Axis}
@@ -12,8 +12,6 @@ use Rattle.xq_trees.specs.Items.{ItemView, Place as NodeAt, Value}
 use Rattle.xq_trees.specs.Tree.{Tree}
 use Rattle.xq_trees.specs.Tuples.{value_at}
 use Rattle.std.proofs.lemmas.Map.Text.{is_eq-slice_cmp}
-use Rattle.xq_expressions.specs.declared.operators.ComparisonOperator.TheVariants as comparing
-use Rattle.xq_expressions.specs.declared.operators.Relation.TheVariants as relation
 use Rattle.xq_meaning.specs.declared.joins.Equality.{Equality}
 use Rattle.xq_meaning.specs.declared.joins.Equality.TheVariants as comparing_by
 use Rattle.xq_meaning.specs.declared.joins.Join.{Join}
@@ -33,7 +31,7 @@ use Rattle.xq_joins.specs.Keys.{IsNode, text_at, meet}
 use Rattle.xq_joins.specs.private.Keys.{nodes_after, places_among}
 use Rattle.xq_joins.specs.private.JoinKeys.{AreTexts, LeadsTo, FormsAs, IsKeyOf, IsTold, texts_given, join_texts, AreSides}
 use Rattle.xq_joins.specs.private.Texts.{IsText, IsTextItem}
-use Rattle.xq_joins.proofs.Meeting.{typed_is_text, plain, compared, node_text, or_none, or_is, meet_swap}
+use Rattle.xq_joins.proofs.Meeting.{compared, node_text, or_none, or_is, meet_swap}
 use Rattle.xq_joins.proofs.Walks.{scan_from}
 
 -- # Texts of atoms

@@ -1,4 +1,4 @@
-use Rattle.std.proofs.Common.{◌≡◌, ◌∙◌, ap, sym, subst, map, List, refl, arith}
+use Rattle.std.proofs.Common.{◌∙◌, ap, sym, subst, map, List, refl}
 use Rattle.std.specs.Prelude.{String, string_bytes}
 use Rattle.std.specs.Global.{Global, Vec}
 use Rattle.xq_axes.specs.Nodes.{HaveAll}

@@ -1,7 +1,6 @@
-use Rattle.std.proofs.Common.{◌≡◌, ◌+◌, ◌++◌, ◌∷◌, [], ◌∙◌, ap, sym, subst, arith, map, take, List}
+use Rattle.std.proofs.Common.{◌++◌, ◌∷◌, [], ◌∙◌, ap, sym, subst, arith, map, take, List}
 use Rattle.std.specs.Prelude.{string_bytes}
 use Rattle.std.proofs.lemmas.List.{map-append, take_all}
-use Rattle.xq_atoms.specs.Text.{Text}
 use Rattle.xq_trees.specs.Items.{ItemView, item_view}
 use Rattle.xq_meaning.specs.Items.{atomized}
 use Rattle.xq_meaning.specs.Readings.{items_at}
