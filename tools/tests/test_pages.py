@@ -69,8 +69,8 @@ class Pages(unittest.TestCase):
         page = (TOP / "docs" / "ARCHITECTURE.md").read_text()
         self.assertGreater(len(PLACE.findall(page)), 40)
         self.assertEqual([*absent_places(page)], [])
-        self.assertEqual([*absent_places("`xq_eval/src/absent.rt`, `evaluation.rt`: `evaluate`, `no`")],
-                         ["xq_eval/absent.rt", "/evaluation.rt: no"])
+        found = [*absent_places("`xq_eval/src/absent.rt`, `evaluation.rt`: `evaluate`, `no`")]
+        self.assertEqual(found, ["xq_eval/absent.rt", "/evaluation.rt: no"])
 
     def test_scripts_that_are_named_are_there(self) -> None:
         known = {it.stem for it in modules()} | {"NAME"}
