@@ -1,4 +1,4 @@
-"""An archive of documents of 2,000 rows, of which more are stored than are kept.
+"""An archive of documents of 2,000 rows, with more documents than the cache holds.
 
     tools/run archive [--server WORDS] [--base WORDS] [--rows N] [--kept MB ..] [--peer]
 

@@ -4,10 +4,11 @@
     tools/run benches --write NAME ..
 
 Those of the libraries are built in out/bench; those of the program take the one that `./serve` has
-proved, or that --server names. What each prints goes to standard output, below its name; with
---write its tables go into docs/MEASURES.md as well, between the marks of its name, with the day,
-the commit and the machine. Status 1 where one fails or misses a bound of its own. Beside a gate, or
-after one: tools/run over_gate CLONE tools/run benches ..
+proved, or that --server names. What each prints goes to standard output, below its name. With
+--write its last table goes into docs/MEASURES.md as well, between the marks of its name, with the
+day, the commit and the machine; `queries` then runs beside the other engines. Status 1 where one
+fails or misses a bound of its own. Beside a gate, or after one: tools/run over_gate CLONE tools/run
+benches ..
 """
 
 import argparse
@@ -28,20 +29,24 @@ PROGRAMS = {"regions": ("xq_trees", "anyhow"),
 # Benchmarks of the program; those that stop at --server take the proved one of this clone.
 OF_PROGRAM = ("queries", "load", "many", "hostile", "limits")
 OF_CLONE = ("literal", "serve")
+# The words of a benchmark for what the page has of it.
+FOR_THE_PAGE = {"queries": ("--engines",)}
 NAMES = (*PROGRAMS, *OF_LIBRARIES, *OF_PROGRAM, *OF_CLONE)
 
 
-def command_of(name: str, server: str | None) -> list[str]:
+def command_of(name: str, server: str | None, is_written: bool) -> list[str]:
     """What runs the benchmark."""
     if name in PROGRAMS:
         return [bench_program("", name, PROGRAMS[name])]
     words = [sys.executable, "-m", f"bench.{name}"]
+    if is_written:
+        words += FOR_THE_PAGE.get(name, ())
     return [*words, "--server", server] if server and name in OF_PROGRAM else words
 
 
 def run(name: str, server: str | None, is_written: bool) -> bool:
     """Runs a benchmark; whether it ended well. What it prints is shown as it comes."""
-    command = command_of(name, server)
+    command = command_of(name, server, is_written)
     if not is_written:
         return subprocess.run(command, cwd=TOP).returncode == 0
     printed = []

@@ -19,7 +19,7 @@ class Times:
 
     @classmethod
     def of(cls, spent: Sequence[float]) -> Times:
-        """Those of runs, of which there is one at least."""
+        """The times of runs; there is at least one."""
         return cls(statistics.median(spent), min(spent))
 
     def __str__(self) -> str:

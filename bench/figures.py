@@ -3,6 +3,7 @@
 from __future__ import annotations
 
 import datetime
+import itertools
 import pathlib
 import platform
 import re
@@ -42,10 +43,13 @@ def processor() -> str:
 
 
 def block(printed: str) -> str:
-    """What a benchmark printed, as it stands in a page: its tables, or all of it as it is."""
+    """What a benchmark printed, as it stands in a page: its last table, or all of it as it is.
+
+    Of a benchmark that prints two tables the last one has the processor's times."""
     lines = [it.rstrip() for it in printed.strip().splitlines()]
-    tables = [it for it in lines if it.startswith("|")]
-    return "\n".join(tables if tables else ["```", *lines, "```"])
+    groups = itertools.groupby(lines, lambda line: line.startswith("|"))
+    tables = [[*group] for is_table, group in groups if is_table]
+    return "\n".join(tables[-1] if tables else ["```", *lines, "```"])
 
 
 def written(page: str, name: str, head: str, printed: str) -> str:

@@ -62,7 +62,7 @@ def tuples(clause: str, outer: int, inner: int) -> str:
 
 
 def bindings(count: int) -> str:
-    """A `let` of so many variables, each of which uses the one before."""
+    """A `let` of so many variables. Each uses the one before."""
     more = "".join(f", $v{number} := $v{number - 1} + 1" for number in range(1, count))
     return f"let $v0 := 1{more} return $v{count - 1}"
 

@@ -1,18 +1,18 @@
-"""What it costs to store literal documents, and to store a document again of which little changed.
+"""What it costs to store literal documents, and to store a document again that changed little.
 
     tools/run load [--server WORDS] [--base WORDS] [--rounds N] [literals|edits ..]
 
-`literals`: three shapes of a literal of one frame, in memory: microseconds a row to read the query,
-of which nothing is evaluated, to read it and make the document, to store it, and to store another
-of that shape in its place. `edits`: milliseconds for the document of bench/queries.py, in memory
+`literals`: three shapes of a literal of one frame, in memory: microseconds a row to read the query
+and evaluate nothing, to read it and make the document, to store it, and to store another of that
+shape in its place. `edits`: milliseconds for the document of bench/queries.py, in memory
 and on a file: made, stored, replaced by itself, and by copies in which one text is changed, four
 times, and in which a node more stands at the front, each copy also by itself, not stored; and the
 pages of log. On a file the first of these edits waits until the engine has copied the log of the
 document's first store into the database: it is also shown by itself.
 
 The server, an older one where --base names it, BaseX where it is installed, which replaces the same
-by `db:replace`, and the inserts of C SQLite (python3's sqlite3) take turns, of which there are N
-(3). Printed are medians, with the least times in brackets, by the clock and of the processor, which
+by `db:replace`, and the inserts of C SQLite (python3's sqlite3) take N turns (3). Printed are
+medians, with the least times in brackets, by the clock and of the processor, which
 has no waiting in it, neither for other programs nor for the disk. The bounds that are wanted are
 shown by both. The status is 1 where one is missed of the processor's time or of the pages, or where
 documents come out different.
@@ -75,7 +75,7 @@ FIRST_TEXT = f"{TEXT} for the first time, stored"
 """On a file it waits for the engine, which first copies the log of the document's first store into
 the database: one of the edits that are judged, and shown by itself besides."""
 Measures = dict[str, dict[str, list[float]]]
-"""By what was measured and of which engine, the figures of the turns."""
+"""The figures of the turns, by what was measured and by engine."""
 
 
 class Found:

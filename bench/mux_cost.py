@@ -2,8 +2,8 @@
 
     tools/run mux_cost [SERVER WORDS]     the server is ./serve where none is named
 
-Each row is `1`, asked 20,000 times: sent ahead, one after the other, and by 20 clients of which
-each has one request under way. The median of three runs; direct and behind `xqs mux` in turn.
+Each row is `1`, asked 20,000 times: sent ahead, one after the other, and by 20 clients with one
+request under way each. The median of three runs; direct and behind `xqs mux` in turn.
 """
 
 import argparse

@@ -102,17 +102,17 @@ QUERIES = [
 MAKING = "making the document"
 LARGE = 100_000
 HALVED = 12
-"""All queries are to take at most what the lesser of Saxon and BaseX takes, and so many of them at
-most half of that."""
+"""Wanted is that all queries take at most what the lesser of Saxon and BaseX takes, and so many of
+them at most half of that."""
 INDEXED, MOST_INDEXED = ("descendant by name", "chain of children", "attribute point"), 1.5
-"""Those of which BaseX's database tells from its indexes, and how many times as long as it they are
-to take at most."""
+"""The queries that BaseX's database answers from its indexes, and the most times as long as it that
+they may take."""
 HALF = ("chain of children", "[last()]", "attribute point")
-"""Those that are to take at most half of what the older program takes."""
+"""Those that may take at most half of what the older program takes."""
 SLOWER = 1.1
 """The most that any may take, beside the older program."""
 BOOKS, MOST_ALLOCATIONS = 20, 8
-"""The tuples of `order by` in a shelf, and the allocations that each is to take at most."""
+"""The tuples of `order by` in a shelf, and the allocations that each may take at most."""
 
 
 def document(elements: int) -> str:
@@ -175,7 +175,7 @@ class Measured:
                        for engine, runs in of.items()} for name, of in self.runs.items()}
 
     def show(self, heads: Sequence[str]) -> None:
-        """Prints the tables, and what is to be known of them."""
+        """Prints the tables, how long engines read the query, and the results that differ."""
         print(*table(["Milliseconds by the clock", *heads], self.times("whole")), "", sep="\n")
         print(*table(["Of the processor", *heads], self.times("processor")), "", sep="\n")
         for engine in heads:
@@ -198,7 +198,7 @@ def beside_engines(times: Mapping[str, Mapping[str, Times]]) -> list[Bound]:
 
 
 def halved(bounds: Sequence[Bound]) -> Iterator[Bound]:
-    """The bound of the query up to which as many take half as are to, by these of all queries."""
+    """The bound of the query that is number HALVED by its ratio, from the bounds of all queries."""
     for last in sorted(bounds, key=lambda bound: bound.ratio)[HALVED - 1:HALVED]:
         yield replace(last, what=f"number {HALVED} of {len(bounds)}, {last.what}", most=0.5)
 

@@ -98,7 +98,7 @@ class Judged(unittest.TestCase):
              for query, _ in queries.QUERIES}
 
     def ours(self, times: dict[str, float]) -> list[Bound]:
-        """The bounds of all queries, of which those named take so long, and others 3.2."""
+        """The bounds of all queries. Those that are named take so long, the others 3.2."""
         return queries.beside_engines(
             {query: {**of, "xqs": Times(times.get(query, 3.2), 3.2)}
              for query, of in self.TIMES.items()})

@@ -87,8 +87,8 @@ def opened(form: Form) -> int:
 
 
 def variables(form: Form, slots: int) -> list[str]:
-    """The variables that a clause binds, by their names or by their slots, of which so many are
-    open before it."""
+    """The variables that a clause binds, by their names or by their slots; so many slots are open
+    before it."""
     names = [f"${unquoted(it)}" for it in form.words if it.startswith('"')]
     return names or [f"${slots + it}" for it in range(opened(form))]
 

@@ -5,7 +5,8 @@
 PROGRAM is the server as it was built; the package goes to FOLDER, and its path is printed. It has
 /usr/bin/xq_server and /usr/bin/xqs with a manual page of each and of each command of xqs, made from
 their `--help`, completion for bash, units of systemd for a file that several servers share and for
-a node, README and docs. It wants `dpkg-deb`, `help2man` and a clean work tree.
+a node, README and docs. It wants `dpkg-deb`, `help2man`, a clean work tree, and the packages that
+commands of xqs import before they show their help: python3-aiohttp for `xqs web`.
 """
 
 from __future__ import annotations

@@ -4,7 +4,7 @@
 #   tools/release/release.sh --gate LOG [--deb]     LOG is what `rt ci` printed for this commit
 #   tools/release/release.sh --unproved [--deb]     before any proof, to try this script
 #
-# With --deb a package for Debian is made beside it (dpkg-deb, help2man).
+# With --deb a package for Debian is made beside it (dpkg-deb, help2man, python3-aiohttp).
 #
 # The archive goes to out/release, with its checksum. It has ./serve and ./demo, the program, README
 # and docs, the clients, a licence where there is one, the text of what was proved, and a checksum

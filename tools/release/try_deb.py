@@ -66,7 +66,7 @@ def within(root: pathlib.Path, command: str, data: bytes | None = None) -> bytes
 
 
 def install(root: pathlib.Path, package: pathlib.Path, mirror: str) -> None:
-    """Makes the bare system with the package in it, of which lintian says nothing."""
+    """Makes the bare system and installs the package there. Raises Wrong if lintian complains."""
     if shutil.which("lintian"):
         said = run(["lintian", "--allow-root", str(package)]).decode()
         if said.strip():

@@ -112,7 +112,7 @@ def wrong(command: Sequence[str], run: Sequence[Group]) -> Iterator[str]:
 
 
 def read_back(groups: Iterable[Group]) -> Group:
-    """The replies of the queries of these groups as queries, each of which gives itself."""
+    """The replies of the queries of these groups as queries that give themselves."""
     texts = {row.text for group in groups for row in group.rows
              if row.kind == Kind.QUERY and row.status == 0 and len(row.text) + 5 <= MAX_REQUEST}
     return Group("read back", tuple(Row(b"Q", text, 0, text) for text in sorted(texts)))

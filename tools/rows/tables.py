@@ -14,8 +14,8 @@ with another request:
 
 Where a group stands `once`, its refused rows are not asked again: they take long.
 
-A text is a string, a list of texts, or a text of which parts stand so many times: { times, before,
-middle, after }. A reply that reads as a code has status 1, any other status 0; `wants` in place of
+A text is a string, a list of texts, or a text whose parts are repeated: { times, before, middle,
+after }. A reply that reads as a code has status 1, any other status 0; `wants` in place of
 `reply` is for status 2.
 """
 

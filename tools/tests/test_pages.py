@@ -17,6 +17,7 @@ PAST = ("CHANGELOG.md",)
 LINK = re.compile(r"\[[^\]]*\]\(([^)\s]+)\)")
 FILE = re.compile(r"(?<![\w./-])((?:tools|bench|clients|docs|crates)/[\w./-]*\w)")
 SCRIPT = re.compile(r"\btools/run\s+(\w+)")
+PLACE = re.compile(r"`(?:(xq_\w+)/)?(?:src/|specs/)?(\w+\.(?:rt|antt))`((?:(?::|,)\s`[\w:]+`)*)")
 SAMPLES = re.compile(r"```.*?```", re.DOTALL)
 
 
@@ -40,6 +41,20 @@ def broken_links(file: pathlib.Path) -> Iterator[str]:
             yield f"{file.name}: {link}: there is no such heading"
 
 
+def absent_places(page: str) -> Iterator[str]:
+    """The files of crates, and the functions in them, that a page names and that are not there.
+
+    A file is named with its crate, or by its name alone. After it and a colon stand its items."""
+    for crate, name, items in PLACE.findall(page):
+        texts = [it.read_text() for folder in ("src", "specs")
+                 for it in TOP.glob(f"crates/{crate or '*'}/{folder}/**/{name}")]
+        if not texts:
+            yield f"{crate}/{name}"
+        for item in re.findall(r"`(?:\w+::)?(\w+)`", items):
+            if not any(re.search(rf"\b(?:fn|struct|enum|def) {item}\b", it) for it in texts):
+                yield f"{crate}/{name}: {item}"
+
+
 class Pages(unittest.TestCase):
     def test_links_lead_somewhere(self) -> None:
         self.assertEqual([it for file in PAGES for it in broken_links(file)], [])
@@ -49,6 +64,13 @@ class Pages(unittest.TestCase):
                   for name in FILE.findall(file.read_text())
                   if "NAME" not in name and not any(TOP.glob(f"{name}*"))]
         self.assertEqual(absent, [])
+
+    def test_places_of_the_architecture_are_there(self) -> None:
+        page = (TOP / "docs" / "ARCHITECTURE.md").read_text()
+        self.assertGreater(len(PLACE.findall(page)), 40)
+        self.assertEqual([*absent_places(page)], [])
+        found = [*absent_places("`xq_eval/src/absent.rt`, `evaluation.rt`: `evaluate`, `no`")]
+        self.assertEqual(found, ["xq_eval/absent.rt", "/evaluation.rt: no"])
 
     def test_scripts_that_are_named_are_there(self) -> None:
         known = {it.stem for it in modules()} | {"NAME"}

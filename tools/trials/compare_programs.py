@@ -238,7 +238,7 @@ def main() -> int:
             differ += 1
             if differ <= MOST_SHOWN:
                 print(kind, body, *replies, sep="\n  ")
-    print(f"{asked} requests, of which {refused} were refused; {differ} replies differ")
+    print(f"{asked} requests, {refused} of them refused; {differ} replies differ")
     return 1 if differ else 0
 
 

@@ -79,7 +79,7 @@ def twice(rows: Sequence[Row]) -> list[Row]:
 
 @dataclass(frozen=True)
 class Input:
-    """Rows that a run has, and the file of which it begins with a copy, where there is one."""
+    """Rows that a run has, and the file that it begins with a copy of, if there is one."""
 
     name: str
     rows: Sequence[Row]

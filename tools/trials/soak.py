@@ -172,7 +172,7 @@ class InMemory:
 
 
 class OnFile:
-    """Servers on one file, of which most are killed."""
+    """Servers on one file, one after another. Most of them are killed."""
 
     def __init__(
         self, program: pathlib.Path, path: pathlib.Path, generator: Generator, tally: Tally

@@ -99,7 +99,7 @@ case "$*" in
 esac
 """
 _APT_GET = """#!/bin/sh
-# Stands in for apt-get: what is to be installed has to be there.
+# Stands in for apt-get: what it should install has to be there already.
 shift
 for name in "$@"; do
     case $name in -*) ;; *) dpkg-query -W "$name" >/dev/null || exit 1 ;; esac

@@ -60,8 +60,8 @@ class Bounds:
     """How many seconds a server may take for a request, and how many bytes of memory it may use.
     None is no bound.
 
-    The bound on memory limits its address space (RLIMIT_AS), of which the server takes little
-    before it uses it. A request that needs more gets status 2, `memory`, and the server goes on.
+    The bound on memory limits its address space (RLIMIT_AS). The server takes little of that before
+    it uses it. A request that needs more gets status 2, `memory`, and the server goes on.
     """
 
     seconds: float | None = SECONDS

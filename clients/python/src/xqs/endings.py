@@ -78,7 +78,7 @@ class Ended(Generic[F]):
             waiting.fail(error)
 
     def fail_all(self, why: str) -> None:
-        """Makes the requests fail that were to be sent again."""
+        """Makes the requests fail that waited to be sent again."""
         self.failed += [(it, _closed(it, why)) for it in self.again]
         self.again = []
 

@@ -127,7 +127,7 @@ def why_not_opened(command: Sequence[str]) -> str:
 
 
 def _advice(path: Path, served: Sequence[Path | None]) -> str:
-    """What to do about the processes that hold a file, some of which serve it under these names."""
+    """What to do about the processes that hold a file; some serve it under these names."""
     if served:
         return ("`xqs serve` is opening or closing it, so try again, or serves it under another "
                 f"name; `xqs stop {served[0] or path}` ends that")

@@ -185,7 +185,7 @@ class Multiplexer:
 
         The requests behind it were not carried out. This one may have been. If it is a change, its
         client's stream ends, which says so. A query gets the reply that it took too long, or status
-        2 `store`, unless it is to be tried once more.
+        2 `store`, unless it is tried once more.
         """
         if not in_flight:
             return []

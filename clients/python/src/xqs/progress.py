@@ -29,8 +29,8 @@ class Progress:
         self.begin(files, size, unit)
 
     def begin(self, files: int, size: int, unit: str = MEGABYTES, passes: int = 1) -> None:
-        """Begins again, with a number of files and a size, of which all is read `passes` times;
-        each pass counts as work."""
+        """Begins again, with a number of files and their size. All is read `passes` times, and each
+        pass counts as work."""
         self._files, self._size, self._unit, self._passes = files, size * passes, unit, passes
         self._start = time.monotonic()
         self.done = self.bytes = self.refused = self.skipped = 0

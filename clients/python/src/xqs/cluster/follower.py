@@ -458,7 +458,7 @@ class Follower:
         if reply[0] == Status.WANTING:
             bound = self.given.memory
             raise Halted(f"the next entry was answered with {reply[1:].decode()}"
-                         + (f", of which this server may have {shown_size(bound)}"
+                         + (f"; this server may have {shown_size(bound)} of it"
                             if bound and reply[1:] == b"memory" else ""))
         return reply
 

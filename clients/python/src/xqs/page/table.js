@@ -97,7 +97,7 @@ function select(title, options, chosen) {
   return element;
 }
 
-/** The chart of a table, of which columns and kind can be chosen. */
+/** The chart of a table. The reader can choose its columns and its kind. */
 export function chartOf(table) {
   const named = table.columns.map((name, n) => [n, name]);
   const numbers = named.filter(([n]) => table.kinds[n] === "number");

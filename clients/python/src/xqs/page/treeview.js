@@ -12,7 +12,7 @@ export class TreeView {
     this.label = label;
   }
 
-  /** The element with the nodes, of which the first are opened. */
+  /** The element with the nodes; the first ones are opened. */
   show(nodes, rowsOpened = ROWS_OPENED) {
     const tree = make("ul", "tree");
     tree.setAttribute("role", "tree");
