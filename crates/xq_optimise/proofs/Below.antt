@@ -18,9 +18,9 @@ use Rattle.xq_meaning.specs.Same.{frame_of}
 use Rattle.xq_meaning.proofs.PlanEquations as plan_eq
 use Rattle.xq_meaning.proofs.SameForms.{AreRelated, then_same, in_turn_same, chain_same, Same}
 use Rattle.xq_optimise.specs.declared.held.Held.{Held}
-use Rattle.xq_optimise.specs.Known.{Fits, IsOfNodes}
+use Rattle.xq_optimise.specs.Known.{Fits}
 use Rattle.xq_optimise.specs.Sure.{SurelyNodes, SurelyTexts, ReadsBelow, IgnoresFocus, IsTest}
-use Rattle.xq_optimise.specs.private.Parts.{IsKnown, IsScan, general_comparison}
+use Rattle.xq_optimise.specs.private.Parts.{IsKnown, IsScan, general_comparison, IsOfNodes}
 use Rattle.xq_optimise.proofs.Scans.{slot_surely, path_surely}
 use Rattle.xq_optimise.proofs.Tests.{comparison_tells}
 

@@ -27,8 +27,8 @@ use Rattle.xq_meaning.specs.PlanMeaning.{Slots}
 use Rattle.xq_optimise.specs.declared.held.Held.{Held}
 use Rattle.xq_optimise.specs.declared.held.Held.TheVariants as has
 use Rattle.xq_optimise.specs.declared.held.Held.TheVariants.{Anything}
-use Rattle.xq_optimise.specs.Known.{IsTextItem, Holds, Fits, each_of}
-use Rattle.xq_optimise.specs.private.Parts.{GivesHeld, AllFit, GivesFitting, with_position, forgotten}
+use Rattle.xq_optimise.specs.Known.{IsTextItem, Holds, Fits}
+use Rattle.xq_optimise.specs.private.Parts.{GivesHeld, AllFit, GivesFitting, with_position, forgotten, each_of}
 
 -- # Slots
 

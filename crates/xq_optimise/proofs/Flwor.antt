@@ -23,9 +23,9 @@ use Rattle.xq_meaning.proofs.Turns.{go_on_give}
 use Rattle.xq_meaning.proofs.SameForms.{AreRelated, for_tuples_same, let_tuples_same, where_tuples_same, order_tuples_same, return_same, SameAt, SameKey as KeySame, SameModifier}
 use Rattle.xq_optimise.specs.declared.held.Held.{Held}
 use Rattle.xq_optimise.specs.declared.held.Held.TheVariants.{Anything}
-use Rattle.xq_optimise.specs.Known.{Fits, each_of}
+use Rattle.xq_optimise.specs.Known.{Fits}
 use Rattle.xq_optimise.specs.Same.{GivesSame}
-use Rattle.xq_optimise.specs.private.Parts.{AreAll, SameKey, IsHeld, GivesHeld, AllFit, GivesFitting, Follows, SameClause, SameMany, SameClauses, with_position, forgotten}
+use Rattle.xq_optimise.specs.private.Parts.{AreAll, SameKey, IsHeld, GivesHeld, AllFit, GivesFitting, Follows, SameClause, SameMany, SameClauses, with_position, forgotten, each_of}
 use Rattle.xq_optimise.proofs.Forms.{related_map}
 use Rattle.xq_optimise.proofs.Fitting.{fits_length, for_fits, let_fits, where_fits, order_fits, count_fits, group_fits}
 

@@ -34,10 +34,10 @@ use Rattle.xq_meaning.proofs.PlanEquations as plan_eq
 use Rattle.xq_meaning.proofs.Turns.{last_turn}
 use Rattle.xq_optimise.specs.declared.held.Held.{Held}
 use Rattle.xq_optimise.specs.declared.held.Held.TheVariants as has
-use Rattle.xq_optimise.specs.Known.{AreNodes, AreFew, Holds, IsText, IsTextItem, IsOfOne, IsOfTexts, Fits}
+use Rattle.xq_optimise.specs.Known.{AreNodes, AreFew, Holds, IsText, IsTextItem, Fits}
 use Rattle.xq_optimise.specs.Sure.{SurelyFindsTexts, on_node}
 use Rattle.xq_optimise.specs.private.Kinds.{AreSlotTexts, EndsInText, GivesText, IsOfText, IsSlotOfOne, IsStep, IsString, LeavesNodes}
-use Rattle.xq_optimise.specs.private.Parts.{GivesHeld, IsHeld, IsKnown}
+use Rattle.xq_optimise.specs.private.Parts.{GivesHeld, IsHeld, IsKnown, IsOfOne, IsOfTexts}
 use Rattle.xq_optimise.proofs.Below.{slot_below, slot_ignores, value_below}
 use Rattle.xq_optimise.proofs.Fitting.{Gives, firsts_all, gives_held, held_gives, then_gives}
 use Rattle.xq_optimise.proofs.ItemTests.{order-map}

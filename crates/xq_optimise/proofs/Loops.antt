@@ -19,9 +19,8 @@ use Rattle.xq_meaning.specs.Same.{frame_of}
 use Rattle.xq_meaning.proofs.Turns.{go_on_give, go_on_go_on, in_turn-append}
 use Rattle.xq_optimise.specs.declared.held.Held.{Held}
 use Rattle.xq_optimise.specs.declared.held.Held.TheVariants.{Anything}
-use Rattle.xq_optimise.specs.Known.{each_of}
 use Rattle.xq_optimise.specs.Same.{GivesSame}
-use Rattle.xq_optimise.specs.private.Parts.{AreAll, SameKey, IsHeld, with_position, AllFit, GivesFitting, Follows, SameRanges, SameClause, SameMany, AddsClauses, AddsTests, SameClauses, Extends, forgotten}
+use Rattle.xq_optimise.specs.private.Parts.{AreAll, SameKey, IsHeld, with_position, AllFit, GivesFitting, Follows, SameRanges, SameClause, SameMany, AddsClauses, AddsTests, SameClauses, Extends, forgotten, each_of}
 use Rattle.xq_optimise.proofs.Ranges.{ranges_push, held_of_same}
 use Rattle.xq_optimise.proofs.Flwor.{one_follows, tests_follow, for_follows, let_follows, order_follows, count_follows, group_follows, refused_follows}
 

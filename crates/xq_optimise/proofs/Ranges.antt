@@ -18,9 +18,9 @@ use Rattle.xq_meaning.specs.Same.{frame_of}
 use Rattle.xq_meaning.proofs.PlanEquations as plan_eq
 use Rattle.xq_meaning.proofs.SameForms.{AreRelated, first_that_same, tested_same}
 use Rattle.xq_optimise.specs.declared.held.Held.{Held}
-use Rattle.xq_optimise.specs.Known.{Holds, Fits, each_of}
+use Rattle.xq_optimise.specs.Known.{Holds, Fits}
 use Rattle.xq_optimise.specs.Same.{GivesSame}
-use Rattle.xq_optimise.specs.private.Parts.{IsHeld, GivesHeld, SameRanges}
+use Rattle.xq_optimise.specs.private.Parts.{IsHeld, GivesHeld, SameRanges, each_of}
 use Rattle.xq_optimise.proofs.Forms.{same_of}
 use Rattle.xq_optimise.proofs.Fitting.{fits_more, items_hold}
 

@@ -25,10 +25,10 @@ use Rattle.xq_meaning.proofs.PlanEquations as plan_eq
 use Rattle.xq_meaning.proofs.Turns.{go_on_give, in_turn-append}
 use Rattle.xq_optimise.specs.declared.held.Held.{Held}
 use Rattle.xq_optimise.specs.declared.held.Held.TheVariants.{Nodes, Anything}
-use Rattle.xq_optimise.specs.Known.{Fits, each_of}
+use Rattle.xq_optimise.specs.Known.{Fits}
 use Rattle.xq_optimise.specs.Same.{GivesSame}
 use Rattle.xq_optimise.specs.Sure.{SurelyTells, SurelyNodes, ReadsBelow, IsTest}
-use Rattle.xq_optimise.specs.private.Parts.{AreAll, AllFit, IsHeld, GivesHeld, GivesFitting, SameClause, SameMany, SameKey, Extends, with_position, forgotten}
+use Rattle.xq_optimise.specs.private.Parts.{AreAll, AllFit, IsHeld, GivesHeld, GivesFitting, SameClause, SameMany, SameKey, Extends, with_position, forgotten, each_of}
 use Rattle.xq_optimise.specs.private.Order.{Rises, IsPassed, SameRest, SameTurns, SameBehind, TakesBack}
 use Rattle.xq_optimise.proofs.Fitting.{fits_length}
 use Rattle.xq_optimise.proofs.Flwor.{itself_follows, one_follows, for_follows, let_follows, where_follows, order_follows, count_follows, group_follows, refused_follows}

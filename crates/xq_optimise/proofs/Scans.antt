@@ -27,10 +27,10 @@ use Rattle.xq_meaning.proofs.Turns.{go_on_give, go_on_go_on, in_turn-append}
 use Rattle.xq_optimise.specs.declared.held.Held.{Held}
 use Rattle.xq_optimise.specs.declared.held.Held.TheVariants as has
 use Rattle.xq_optimise.specs.declared.held.Held.TheVariants.{Nodes, Anything}
-use Rattle.xq_optimise.specs.Known.{AreNodes, Holds, Fits, IsOfNodes}
+use Rattle.xq_optimise.specs.Known.{AreNodes, Holds, Fits}
 use Rattle.xq_optimise.specs.Sure.{SurelyNodes}
 use Rattle.xq_optimise.specs.private.Kinds.{LeavesNodes, EndsInNodes}
-use Rattle.xq_optimise.specs.private.Parts.{IsHeld, IsKnown, GivesHeld, IsScan}
+use Rattle.xq_optimise.specs.private.Parts.{IsHeld, IsKnown, GivesHeld, IsScan, IsOfNodes}
 
 pub nodes_all : (code : Code) (ps : List Place) → all_nodes code (map Node ps) ≡ Ok ps
 nodes_all code [] = refl

@@ -39,34 +39,6 @@ Holds has.Text xs = AllByRecursion IsTextItem xs × AreFew xs
 Holds has.Item xs = AreFew xs
 Holds has.Anything xs = Unit {0}
 
--- what is known of each item alone, or of none
-abbrev pub each_of : Held → Held
-each_of has.Nodes = has.Node
-each_of has.Node = has.Node
-each_of has.Texts = has.Text
-each_of has.Text = has.Text
-each_of has.Item = has.Item
-each_of has.Anything = has.Item
-
--- it says that all items are nodes
-abbrev pub IsOfNodes : Held → Type 0
-IsOfNodes has.Nodes = Unit {0}
-IsOfNodes has.Node = Unit {0}
-IsOfNodes known = ⊥
-
--- that all are texts
-abbrev pub IsOfTexts : Held → Type 0
-IsOfTexts has.Texts = Unit {0}
-IsOfTexts has.Text = Unit {0}
-IsOfTexts known = ⊥
-
--- that there is at most one
-abbrev pub IsOfOne : Held → Type 0
-IsOfOne has.Node = Unit {0}
-IsOfOne has.Text = Unit {0}
-IsOfOne has.Item = Unit {0}
-IsOfOne known = ⊥
-
 -- so many slots are open, each with a value as described
 abbrev pub Fits : List Held → Slots → Type 0
 Fits [] [] = Unit {0}

@@ -3,10 +3,9 @@ ghost use Rattle.std.specs.Prelude.{◌≡◌, ◌∷◌, [], true, false, if◌
 ghost use Rattle.std.specs.List.{AllByRecursion};
 ghost use Rattle.xq_atoms.specs.Text.{Text};
 ghost use Rattle.xq_meaning.specs.declared.plans.Plan.TheVariants as plan_of;
-ghost use Rattle.xq_optimise.specs.Known.{IsOfNodes, IsOfTexts, IsOfOne, each_of};
 ghost use Rattle.xq_optimise.specs.Scans.{IsNoPathOfScans};
 ghost use Rattle.xq_optimise.specs.declared.held.Held.TheVariants.{Nodes, Texts, Anything};
-ghost use Rattle.xq_optimise.specs.private.Parts.{IsHeld, IsKnown, IsScan};
+ghost use Rattle.xq_optimise.specs.private.Parts.{IsHeld, IsKnown, IsScan, IsOfNodes, IsOfTexts, IsOfOne, each_of};
 ghost use Rattle.xq_optimise.specs.private.Kinds.{EndsInNodes, EndsInText, IsStep, LeavesNodes, GivesText, IsOfText, IsString};
 
 use crate::held::Held;

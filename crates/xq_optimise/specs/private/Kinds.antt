@@ -13,9 +13,8 @@ use Rattle.xq_meaning.specs.Items.{Item}
 use Rattle.xq_meaning.specs.PlanMeaning.{Frame, plan_mean, plan_step_mean}
 use Rattle.xq_optimise.specs.declared.held.Held.{Held}
 use Rattle.xq_optimise.specs.declared.held.Held.TheVariants as has
-use Rattle.xq_optimise.specs.Known.{IsOfOne}
 use Rattle.xq_optimise.specs.Sure.{SurelyTexts, ReadsBelow, IgnoresFocus}
-use Rattle.xq_optimise.specs.private.Parts.{GivesHeld, IsKnown}
+use Rattle.xq_optimise.specs.private.Parts.{GivesHeld, IsKnown, IsOfOne}
 
 -- a step from the node in focus
 abbrev pub IsStep : Plan → Type 0

@@ -24,8 +24,9 @@ use Rattle.xq_meaning.specs.Doing.{Outcome, in_turn}
 use Rattle.xq_meaning.specs.PlanMeaning.{Slots, next_clause, plan_mean, plan_clause_mean, plan_step_mean}
 use Rattle.xq_meaning.specs.Same.{frame_of}
 use Rattle.xq_optimise.specs.declared.held.Held.{Held}
+use Rattle.xq_optimise.specs.declared.held.Held.TheVariants as has
 use Rattle.xq_optimise.specs.declared.held.Held.TheVariants.{Anything}
-use Rattle.xq_optimise.specs.Known.{Holds, Fits, each_of}
+use Rattle.xq_optimise.specs.Known.{Holds, Fits}
 use Rattle.xq_optimise.specs.Same.{GivesSame}
 use Rattle.xq_optimise.specs.Sure.{SamePredicates}
 
@@ -75,6 +76,34 @@ abbrev pub IsHeld : List Held → Held → Plan → Type 0
 IsHeld known held p =
     (slots : Slots) (focus : Option Focus) (addresses : List Text) (trees : List Tree) →
     Fits known slots → GivesHeld held (plan_mean p (frame_of slots focus addresses) trees)
+
+-- what is known of each item alone, or of none
+abbrev pub each_of : Held → Held
+each_of has.Nodes = has.Node
+each_of has.Node = has.Node
+each_of has.Texts = has.Text
+each_of has.Text = has.Text
+each_of has.Item = has.Item
+each_of has.Anything = has.Item
+
+-- it says that all items are nodes
+abbrev pub IsOfNodes : Held → Type 0
+IsOfNodes has.Nodes = Unit {0}
+IsOfNodes has.Node = Unit {0}
+IsOfNodes known = ⊥
+
+-- that all are texts
+abbrev pub IsOfTexts : Held → Type 0
+IsOfTexts has.Texts = Unit {0}
+IsOfTexts has.Text = Unit {0}
+IsOfTexts known = ⊥
+
+-- that there is at most one
+abbrev pub IsOfOne : Held → Type 0
+IsOfOne has.Node = Unit {0}
+IsOfOne has.Text = Unit {0}
+IsOfOne has.Item = Unit {0}
+IsOfOne known = ⊥
 
 -- this is known of the slot
 abbrev pub IsKnown : (Held → Type 0) → List Held → ℕ → Type 0
