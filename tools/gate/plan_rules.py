@@ -243,34 +243,38 @@ def with_predicate(path: Form, test: Form) -> Form:
     return Form("path", (), (*others, Form("each", (), (step,))))
 
 
-def focused(side: Form) -> list[Form]:
-    """The parts of a predicate that one side of a test of a variable may stand for."""
-    if side.word == "slot":
-        return focus_parts(Form("key"))
-    if side.word == "path" and side.parts[0].word == "slot":
-        return focus_parts(Form("key", (), side.parts[1:]))
-    return [side]
+def of_variable(side: Form, slot: Form) -> Form:
+    """What one side of a predicate gives, from the slot with the item in focus."""
+    if side.word == "context-item":
+        return slot
+    first, *more = side.parts if side.word == "path" else (side,)
+    if first.word != "step":
+        return side
+    return Form("path", (), (slot, Form("scan", first.words, first.parts), *more))
 
 
-def is_narrowed(test: Form, predicate: Form) -> bool:
-    """Whether a predicate is a test of a variable, of the item in focus."""
-    if not test.word == predicate.word == "chain" or len(test.parts) != 2:
-        return False
-    (old, operand), (new, other) = test.parts, predicate.parts
-    return operand.words == other.words and new in focused(old) and (
-        other.parts[0] in focused(operand.parts[0]))
+def slots(form: Form) -> Iterator[Form]:
+    """The slots that a form reads."""
+    if form.word == "slot":
+        yield form
+    for part in form.parts:
+        yield from slots(part)
 
 
 def narrowed_out(clause: Form, olds: Sequence[Form]) -> tuple[Form, ...]:
     """The `for` and the `where` that a `for` over a filter stands for, or the clause itself."""
-    if clause.word != "for" or clause.parts[0].word != "filter":
+    range_ = clause.parts[0] if clause.word == "for" else clause
+    if range_.word != "filter" or range_.parts[-1].word != "chain":
         return (clause,)
-    start, *predicates = clause.parts[0].parts
-    tests = [it for it in olds if it.word == "where" and is_narrowed(it.parts[0], predicates[-1])]
-    if not tests:
-        return (clause,)
-    left = Form("filter", (), (start, *predicates[:-1])) if predicates[:-1] else start
-    return Form("for", clause.words, (left, *clause.parts[1:])), tests[0]
+    start, *others, (first, operand) = (*range_.parts[:-1], range_.parts[-1].parts)
+    left = Form("filter", (), (start, *others)) if others else start
+    for old in (it for it in olds if it.word == "where"):
+        for slot in slots(old):
+            right = Form("operand", operand.words, (of_variable(operand.parts[0], slot),))
+            test = Form("where", (), (Form("chain", (), (of_variable(first, slot), right)),))
+            if derived(old, test) is not None:
+                return Form("for", clause.words, (left, *clause.parts[1:])), test
+    return (clause,)
 
 
 def stood_for(group: Form) -> Iterator[tuple[str, Form]]:

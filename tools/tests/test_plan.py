@@ -51,6 +51,7 @@ TITLE = path(1, 'child (element "t")')
 RANGE = f"(for {path(0, B)})"
 JOIN = f"(join = {path(0, B)} (carried 0) (key value 1 (scan {ID})) (key value 0 (scan {ID})))"
 TEST = f'(chain (step {ID}) (operand = (string "1")))'
+OF_ITEM = f'(chain {path(1, ID)} (operand = (string "1")))'
 LAST = "(return (slot 1))"
 GROUP = f"(group-join = (slot 9) (key value 1 (scan {ID})) (key value 0 (scan {ID})))"
 OF_CHILD = f"(group-join = (slot 9) (key value 1 (scan {B})) (key value 0 (scan {ID})))"
@@ -86,6 +87,8 @@ DERIVED = (
     (f"(flwor {RANGE} (return (call count {OF_LIST})))",
      f"(flwor {RANGE} {GROUP} (return (call count (slot 1))))",
      ["group_joins", "group_returns", "joins"]),
+    (f"(flwor {RANGE} (where {OF_ITEM}) {LAST})",
+     f"(flwor (for (filter {path(0, B)} {TEST})) {LAST})", ["narrow"]),
 )
 # Of each rule a query to which it applies.
 QUERIES = {
@@ -95,13 +98,14 @@ QUERIES = {
     "group_returns": 'for $a in doc("x")//a return count(for $b in doc("x")//b'
                      ' where $b/c = $a/c return $b)',
     "joins": 'for $a in doc("x")//a, $b in doc("x")//b where $b/@id = $a/@id return $b',
+    "narrow": 'for $a in doc("x")//a where $a/@id = "1" return $a/b',
     "nested": 'for $a in doc("x")//a return for $b in doc("x")//b where $b/@id = $a/@id return $b',
     "order": 'for $a in doc("x")//a let $c := $a/c where $c where $a/@id = "1" return $a',
     "positions": 'doc("x")/a[3 eq position()]',
     "predicates": 'doc("x")/a[b and position() < 3]',
     "returns": 'for $a in doc("x")//a return if ($a/@id = "1") then $a else ()',
     "scanned": 'doc("x")/a/b[@id = "1"]/c',
-    "some_pairs": 'for $a in doc("x")//a where some $b in $a/b satisfies $b = "1" return $a',
+    "some_pairs": 'for $a at $n in doc("x")//a where some $b in $a/b satisfies $b = "1" return $n',
     "wheres": 'for $a in doc("x")//a where $a/b and $a/@id = "1" return $a',
     "written": 'for $a in doc("x")//a let $b := $a/b where $b = $a/c return $a',
 }
