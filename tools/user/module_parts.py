@@ -105,17 +105,19 @@ def homes(module: Module, uses: dict[str, list[str]]) -> dict[str, str]:
     return found
 
 
-def shares(module: Module, home: dict[str, str], count: int) -> list[set[str]]:
-    """The crates of each of so many parts: the longest first, to the shortest part so far."""
-    lengths: collections.Counter[str] = collections.Counter()
-    for name, crate in home.items():
-        lengths[crate] += len(module.functions.get(name, ()))
+def shares(module: Module, owned: Iterable[set[str]], count: int) -> list[set[str]]:
+    """The functions of each of so many parts: those of each crate with their copies, the longest
+    crate first, go to the part that is the shortest with them."""
+    def length(functions: Iterable[str]) -> int:
+        return sum(len(module.functions[it]) for it in functions)
+
     parts: list[set[str]] = [set() for _ in range(count)]
     totals = [0] * count
-    for crate, length in lengths.most_common():
-        shortest = totals.index(min(totals))
-        parts[shortest].add(crate)
-        totals[shortest] += length
+    for functions in sorted(owned, key=length, reverse=True):
+        longer = [total + length(functions - part) for total, part in zip(totals, parts)]
+        shortest = longer.index(min(longer))
+        parts[shortest] |= functions
+        totals[shortest] = longer[shortest]
     return [it for it in parts if it]
 
 
@@ -138,8 +140,10 @@ class Parts:
         of_constants = {it: uses[it] for it in module.constants}
         uses = {it: reached(uses[it], of_constants) for it in home if it in module.functions}
         copied = {name: [it for it in named if it in small] for name, named in uses.items()}
-        functions = [set(reached((it for it in uses if home[it] in crates and it not in small),
-                                 copied)) for crates in shares(module, home, count)]
+        owned: dict[str, list[str]] = {}
+        for name in (it for it in uses if it not in small):
+            owned.setdefault(home[name], []).append(name)
+        functions = shares(module, [set(reached(it, copied)) for it in owned.values()], count)
         shared = {it for part in functions for name in part for it in uses[name]
                   if it in module.functions and it not in part}
         return cls(module, uses, functions, shared)
