@@ -175,7 +175,7 @@ def implemented(piece: str) -> str:
 
 
 def trait_name(piece: str) -> str:
-    """The name of a public trait; "" where the piece is none."""
+    """The name of a public trait; "" where the piece begins with none."""
     found = re.match(r"pub trait (\w+)", piece)
     return found.group(1) if found else ""
 
