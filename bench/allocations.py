@@ -47,6 +47,7 @@ def of_queries(command: Command, make: str, queries: Sequence[str]) -> list[int]
 
 
 def main() -> None:
+    """Prints the allocations of each query; nothing without a C compiler."""
     from bench.queries import QUERIES, document
     from tools.common.harness import built
 

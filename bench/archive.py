@@ -241,6 +241,7 @@ def beside_peer(server: Opened, documents: int, room: pathlib.Path) -> bool:
 
 
 def main() -> int:
+    """Stores the archive, measures each opening, and judges the bounds; gives the status."""
     words = argparse.ArgumentParser(description=__doc__.partition("\n")[0])
     words.add_argument("--server", default="", help="the server; the built one else")
     words.add_argument("--base", default="", help="the command of an older server, beside")

@@ -119,6 +119,7 @@ def report(few: Table, many: Table) -> int:
 
 
 def main() -> int:
+    """Builds and measures; status 1 where a growth or the first reading misses its bound."""
     parser = argparse.ArgumentParser(
         description=__doc__, formatter_class=argparse.RawTextHelpFormatter)
     parser.add_argument("--runs", type=int, default=1)

@@ -68,6 +68,7 @@ def of_engines(is_wanted: bool, scratch: str) -> tuple[list[str], list[list[str]
 
 
 def main() -> int:
+    """Builds and measures; status 1 where a time grows too fast."""
     words = argparse.ArgumentParser(description=__doc__.partition("\n")[0])
     words.add_argument("--engines", action="store_true", help="times of other engines beside")
     words.add_argument("folder", nargs="?")

@@ -251,6 +251,7 @@ def given() -> argparse.Namespace:
 
 
 def main() -> int:
+    """Shows what the command line asks for; gives the status."""
     words = given()
     command = shlex.split(words.server) if words.server else [str(built())]
     wanted = questions(words.only)

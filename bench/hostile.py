@@ -56,6 +56,7 @@ def asked(server: Server, query: str, wanted: Answer) -> float:
 
 
 def main() -> None:
+    """Asks all texts and prints their times; ends with 1 where an answer is another one."""
     parser = argparse.ArgumentParser(
         description=__doc__, formatter_class=argparse.RawTextHelpFormatter)
     parser.add_argument(

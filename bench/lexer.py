@@ -39,6 +39,7 @@ fn main(rt: HostRuntime) -> io::Result<()> {
 
 
 def repeated(piece: str, size: int) -> str:
+    """The piece, repeated as often as it fits whole into so many characters."""
     return piece * (size // len(piece))
 
 
@@ -61,6 +62,10 @@ KINDS: tuple[tuple[str, Callable[[int], str]], ...] = (
 
 
 def timed(program: str, text: str) -> tuple[int, int]:
+    """How many tokens the text has, and the least microseconds of five runs, at least 1.
+
+    Ends the script where the text is refused. Raises CalledProcessError where the program fails.
+    """
     best: int | None = None
     for _ in range(5):
         done = subprocess.run([program], input=text.encode(), stdout=subprocess.PIPE, check=True)

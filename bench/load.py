@@ -283,6 +283,7 @@ def measure(what: str, servers: Mapping[str, Command], rounds: int) -> bool:
 
 
 def main() -> int:
+    """Measures what is named, or all; gives the status."""
     words = argparse.ArgumentParser(description=__doc__.partition("\n")[0])
     words.add_argument("--server", default="", help="the server; the built one else")
     words.add_argument("--base", default="", help="the command of an older server, beside")

@@ -63,6 +63,7 @@ def import_by_basex(folder: pathlib.Path, room: str) -> str:
 
 
 def main() -> None:
+    """Prints the times of the client alone, of both loads, and of BaseX."""
     words = argparse.ArgumentParser(description=__doc__.splitlines()[0])
     words.add_argument("--server", default=str(TOP / "serve"))
     words.add_argument("folder", nargs="?", type=pathlib.Path, default="/usr/share")

@@ -153,6 +153,7 @@ def show_openings(program: Sequence[object], folder: pathlib.Path, most_rows: in
 
 
 def main() -> int:
+    """Measures all, and prints the bounds that don't hold; gives the status."""
     words = argparse.ArgumentParser(description=__doc__.split("\n")[0])
     words.add_argument("--server", help="the program, instead of the one that ./serve proves")
     words.add_argument("--documents", type=int, default=10_000)

@@ -115,6 +115,10 @@ def report_bound(rows: int, found: Sequence[Stage]) -> None:
 
 
 def measure(program: str) -> None:
+    """Stores the document, scans it in another process, and prints the stages and the bound.
+
+    Raises CalledProcessError where the program fails.
+    """
     with tempfile.TemporaryDirectory() as folder:
         path = os.path.join(folder, "rows.db")
         rows = int(answer(program, f"fill {ELEMENTS} {path}"))

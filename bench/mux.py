@@ -259,6 +259,10 @@ class Reader(threading.Thread):
         self.spans: list[Span] = []
 
     def run(self) -> None:
+        """Asks a lookup, and waits a millisecond, again and again until `end` is called.
+
+        Raises RuntimeError where a lookup is refused, ConnectionError where the stream ends.
+        """
         while not self.is_ended:
             begin = time.monotonic()
             self._client.ask(b"Q", LOOKUP)

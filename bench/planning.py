@@ -24,24 +24,29 @@ RUNS = 15
 
 
 def steps(length: int) -> str:
+    """A query of about that many bytes: a path with steps of six kinds in turn."""
     kinds = ("/a", "//b", "/..", "/@c", "//d[1]", "/preceding::e")
     return of_length(length, "a", lambda n: kinds[n % len(kinds)], "")
 
 
 def operands(length: int) -> str:
+    """A query of about that many bytes that adds digits in one chain."""
     return of_length(length, "1", lambda n: f" + {n % 10}", "")
 
 
 def new_variables(length: int) -> str:
+    """A query of about that many bytes that binds ever new variables by earlier ones."""
     return of_length(length, "let $v0 := 1",
                      lambda n: f", $v{n + 1} := ($v{n}, $v{n // 2})", " return $v0")
 
 
 def one_variable(length: int) -> str:
+    """A query of about that many bytes that binds one variable again and again."""
     return of_length(length, "let $v := 1", lambda n: ", $v := $v + 1", " return $v")
 
 
 def other_clauses(length: int) -> str:
+    """A query of about that many bytes: one `for`, then clauses that bind no new variable."""
     kinds = (" where $v = %d", " order by $v, $w descending", " group by $v",
              " stable order by $w + %d empty greatest")
     return of_length(length, "for $v at $w in 1 to 9",
@@ -49,6 +54,7 @@ def other_clauses(length: int) -> str:
 
 
 def quantifiers(length: int) -> str:
+    """A query of about that many bytes: quantified expressions side by side."""
     part = ", (some $v%d in 1 to 3, $w in $v%d satisfies $w)"
     return of_length(length, "1", lambda n: part % (n % 1000, n % 1000), "")
 

@@ -274,6 +274,7 @@ def compare(servers: Mapping[str, Command], are_engines_wanted: bool) -> bool:
 
 
 def main() -> int:
+    """Shows how the times grow and gives 0, or compares the engines and gives the status."""
     words = argparse.ArgumentParser(
         description=__doc__, formatter_class=argparse.RawTextHelpFormatter)
     words.add_argument("rounds", nargs="?", type=int, default=7)

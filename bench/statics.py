@@ -20,25 +20,30 @@ RUNS = 75
 
 
 def new_variables(length: int) -> str:
+    """A query of about that many bytes that binds ever new variables by earlier ones."""
     return of_length(length, "let $v0 := 1",
                      lambda n: f", $v{n + 1} := ($v{n}, $v{n // 2})", " return $v0")
 
 
 def one_variable(length: int) -> str:
+    """A query of about that many bytes that binds one variable again and again."""
     return of_length(length, "let $v := 1", lambda n: ", $v := $v + 1", " return $v")
 
 
 def nested_scopes(length: int) -> str:
+    """A query of about that many bytes: FLWOR expressions side by side, each a scope."""
     part = ", (for $v%d at $p in 1 to 3 return $v%d + $p)"
     return of_length(length, "1", lambda n: part % (n % 1000, n % 1000), "")
 
 
 def calls(length: int) -> str:
+    """A query of about that many bytes: calls of five functions in turn."""
     names = ("count(1)", "string-join(1, 2)", "concat(1, 2, 3)", "xs:integer(1)", "fn:round(1)")
     return of_length(length, "1", lambda n: ", " + names[n % len(names)], "")
 
 
 def clauses(count: int) -> str:
+    """A FLWOR expression of that many clauses; few of them are `for` or `let`, which nest."""
     # Each word that binds nests what follows, and nesting goes to 128: so few clauses bind by
     # words of their own.
     kinds = ("where $x", "group by $v%d := $x, $x", "order by $x, $x descending",

@@ -31,6 +31,7 @@ CITATION = re.compile(r"\[([^\]]+)\](?!\()")
 
 
 def read(path: str) -> str:
+    """The text of a file. Raises OSError where it can't be read."""
     with open(path) as file:
         return file.read()
 

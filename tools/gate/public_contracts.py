@@ -26,6 +26,10 @@ def git(*words: str) -> str:
 
 
 def sources(commit: str) -> list[str]:
+    """The paths of the crates' source files at a commit, without those of tests.
+
+    Raises CalledProcessError where git knows no such commit.
+    """
     names = git("ls-tree", "-r", "--name-only", commit, "crates").split("\n")
     return [it for it in names if SOURCE.match(it) and not OF_TESTS.search(it)]
 
@@ -56,6 +60,10 @@ def contract(text: str, at: int) -> str:
 
 
 def contracts(commit: str, renames: Iterable[tuple[str, str]]) -> set[str]:
+    """The heads and clauses of the public functions at a commit, with words renamed.
+
+    Raises CalledProcessError where git knows no such commit.
+    """
     found: set[str] = set()
     for name in sources(commit):
         text = git("show", f"{commit}:{name}")

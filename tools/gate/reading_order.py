@@ -40,6 +40,7 @@ Uses: TypeAlias = dict[str, Definition]
 
 
 def read(path: str) -> str:
+    """The text of a file. Raises OSError where it can't be read."""
     with open(path) as file:
         return file.read()
 
@@ -109,6 +110,7 @@ def in_record(found: Mapping[str, list[str]], name: str | None, line: str) -> bo
 
 
 def files_of_specs() -> dict[str, File]:
+    """The files of the specs/ of all crates by their modules, without each Lib.antt."""
     files: dict[str, File] = {}
     for crate in sorted(os.listdir(f"{TOP}/crates")):
         base = f"{TOP}/crates/{crate}/specs"
@@ -173,12 +175,17 @@ def implemented(piece: str) -> str:
 
 
 def trait_name(piece: str) -> str:
+    """The name of a public trait; "" where the piece begins with none."""
     found = re.match(r"pub trait (\w+)", piece)
     return found.group(1) if found else ""
 
 
 def references(text: str, uses: Uses, aliases: Mapping[str, str], own: Collection[str],
                module: str) -> Iterator[Definition]:
+    """The definitions that a text names: those that its file brings in, and the file's own.
+
+    `own` has the names of the file's own definitions, and `module` is its module.
+    """
     for word in set(WORD.findall(text)):
         first, _, rest = word.partition(".")
         if first in uses:
@@ -190,6 +197,7 @@ def references(text: str, uses: Uses, aliases: Mapping[str, str], own: Collectio
 
 
 def reached(files: Mapping[str, File], crates: Iterable[str]) -> set[Definition]:
+    """The definitions that the public clauses of the crates reach, straight or through others."""
     todo = [it for crate in crates for text, uses, aliases in clauses_of(crate)
             for it in references(text, uses, aliases, (), "")]
     done: set[Definition] = set()
@@ -205,6 +213,10 @@ def reached(files: Mapping[str, File], crates: Iterable[str]) -> set[Definition]
 
 
 def show(files: Mapping[str, File], done: Collection[Definition]) -> None:
+    """Prints a line for each file with definitions that are reached, and the sums.
+
+    It begins with the lowest crate, and leaves out what lies in specs/private/.
+    """
     sums = [0, 0]
     rank = {crate: at for at, crate in enumerate(order_of_crates())}
     crate_of = {module: module.split(".")[1] for module in files}
@@ -257,6 +269,7 @@ def write(found: Mapping[str, list[tuple[str, int]]]) -> None:
 
 
 def show_unreached(files: Mapping[str, File], done: Collection[Definition]) -> None:
+    """Prints by file the definitions that are not reached, without those of specs/private/."""
     for module, file in sorted(files.items()):
         names = [it for it in file.definitions if (module, it) not in done]
         if names and ".specs.private." not in module:

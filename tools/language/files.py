@@ -112,6 +112,7 @@ def imports_of(rows: Sequence[Row], answers: str, encodes: bool) -> Iterator[str
 
 
 def imports_of_operators(used: set[str]) -> Iterator[str]:
+    """The lines that bring in the variants of operators, as far as they are used."""
     module = "Rattle.xq_expressions.specs.declared.operators.%s.TheVariants"
     for kind, variants in VARIANTS.items():
         if used.intersection(variants):

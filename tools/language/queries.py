@@ -61,10 +61,12 @@ Part = TypeVar("Part")
 
 
 def symbol(text: str) -> Token:
+    """The token of a symbol."""
     return Token("symbol", text)
 
 
 def word(text: str) -> Token:
+    """The token of a word: of a name without a prefix."""
     return Token("name", text)
 
 
@@ -109,7 +111,10 @@ def tree(text: str) -> Form:
 
 
 class Reader:
-    """Reads forms from tokens; each method takes the tokens of what it gives."""
+    """Reads forms from tokens; each method takes the tokens of what it gives.
+
+    A method that gives a form or a name raises Refused where the next tokens break its grammar.
+    """
 
     def __init__(self, given: list[Token]) -> None:
         self.tokens, self.at = given, 0
@@ -123,6 +128,7 @@ class Reader:
         return all(self.peek(ahead) == token for ahead, token in enumerate(wanted))
 
     def take(self) -> Token:
+        """Takes the next token, and gives it."""
         token = self.peek()
         self.at += 1
         return token
@@ -163,6 +169,7 @@ class Reader:
         return form(first, rest) if rest else first
 
     def name(self) -> Name:
+        """A name, with its prefix or none. Raises Refused where none comes next."""
         token = self.take()
         if isinstance(token.value, Name):
             return token.value
@@ -171,13 +178,16 @@ class Reader:
         raise Refused("XPST0003")
 
     def variable(self) -> Name:
+        """The name of a variable, after its `$`."""
         self.expect(DOLLAR)
         return self.name()
 
     def expression(self) -> Form:
+        """One or more single expressions, with commas between them."""
         return self.joined(Sequence, self.single, COMMA)
 
     def single(self) -> Form:
+        """A FLWOR, quantified or conditional expression, operands of `or`, or one alone."""
         for first in ("for", "let"):
             if self.stands(word(first), DOLLAR):
                 return self.flwor()
@@ -191,12 +201,14 @@ class Reader:
     # FLWOR, quantified and conditional expressions
 
     def flwor(self) -> Form:
+        """Clauses up to `return`, and the result."""
         clauses: list[Form] = []
         while not self.takes(word("return")):
             clauses.append(self.clause())
         return Flwor(clauses, self.single())
 
     def clause(self) -> Form:
+        """A clause of any kind. The word `stable` before `order by` has no effect."""
         if self.stands(word("for"), DOLLAR):
             self.take()
             return For(self.parts(self.each, COMMA))
@@ -252,12 +264,14 @@ class Reader:
         return Binding(name, self.single())
 
     def quantified(self) -> Form:
+        """A quantifier, its variables and its condition."""
         quantifier = self.take().text
         bindings = self.parts(self.ranged, COMMA)
         self.expect(word("satisfies"))
         return Quantified(quantifier, bindings, self.single())
 
     def conditional(self) -> Form:
+        """An `if` with its condition and both of its branches."""
         self.expect(word("if"), symbol("("))
         condition = self.expression()
         self.expect(symbol(")"), word("then"))
@@ -268,9 +282,11 @@ class Reader:
     # Operators, from loose to tight
 
     def conjunction(self) -> Form:
+        """Operands of `and`, or one alone."""
         return self.joined(And, self.comparison, word("and"))
 
     def comparison(self) -> Form:
+        """Two operands of a comparison with its kind and relation, or one alone."""
         left = self.concatenation()
         if self.peek() not in COMPARISONS:
             return left
@@ -278,25 +294,32 @@ class Reader:
         return Comparison(left, kind, relation, self.concatenation())
 
     def concatenation(self) -> Form:
+        """Operands of `||`, or one alone."""
         return self.joined(Concat, self.range, symbol("||"))
 
     def range(self) -> Form:
+        """The two ends of a range, or one operand alone."""
         first = self.sum()
         return Range(first, self.sum()) if self.takes(word("to")) else first
 
     def sum(self) -> Form:
+        """Operands of `+` and `-`, or one alone."""
         return self.chain(Sum, self.product, SIGNS)
 
     def product(self) -> Form:
+        """Operands of `*`, `div`, `idiv` and `mod`, or one alone."""
         return self.chain(Product, self.union, PRODUCTS)
 
     def union(self) -> Form:
+        """Operands of `|` and `union`, or one alone."""
         return self.joined(Union, self.set_operation, symbol("|"), word("union"))
 
     def set_operation(self) -> Form:
+        """Operands of `intersect` and `except`, or one alone."""
         return self.chain(SetOperation, self.arrow, SETS)
 
     def arrow(self) -> Form:
+        """An operand with the calls after each `=>`, or the operand alone."""
         first = self.unary()
         calls: list[tuple[Name, list[Form]]] = []
         while self.takes(symbol("=>")):
@@ -304,6 +327,7 @@ class Reader:
         return Arrow(first, calls) if calls else first
 
     def unary(self) -> Form:
+        """Signs before paths that `!` joins, or the paths without a sign."""
         signs: list[str] = []
         while self.peek() in SIGNS:
             signs.append(SIGNS[self.take()])
@@ -313,6 +337,7 @@ class Reader:
     # Paths
 
     def path(self) -> Form:
+        """A path from the root, from below it, or relative; `/` alone is the root."""
         if self.takes(symbol("//")):
             return self.path_from("RootAndBelow")
         if self.takes(symbol("/")):
@@ -320,6 +345,7 @@ class Reader:
         return self.path_from("Relative")
 
     def begins_step(self) -> bool:
+        """Whether the next token can begin a step."""
         kind, value = self.peek()
         if kind == "symbol":
             return value in ("$", "(", ".", "..", "@", "*")
@@ -345,6 +371,7 @@ class Reader:
         return found
 
     def step(self) -> Form:
+        """A step with its predicates: along an axis, or a primary expression."""
         if self.takes(symbol("..")):
             return ParentStep(self.predicates())
         if self.takes(symbol("@")):
@@ -359,6 +386,7 @@ class Reader:
         return PrimaryStep(part, self.predicates())
 
     def test(self) -> Form:
+        """A node test: `*`, a kind, or a name."""
         if self.takes(symbol("*")):
             return KindTest("AnyName")
         kind, value = self.peek().kind, self.peek().text
@@ -383,6 +411,7 @@ class Reader:
     # Primary expressions; none where a step along an axis begins
 
     def primary(self) -> Form | None:
+        """A primary expression, or none where a step along an axis begins."""
         kind, value = self.peek()
         match kind:
             case "integer" | "decimal" if isinstance(value, int):
@@ -398,6 +427,7 @@ class Reader:
         return None
 
     def primary_of_symbol(self) -> Form | None:
+        """A variable, the context item or what stands in parentheses, or none."""
         if self.stands(DOLLAR):
             return Variable(self.variable())
         if self.takes(symbol(".")):
@@ -427,6 +457,7 @@ class Reader:
         return Named(value, name, self.enclosed("{", "}"))
 
     def computed_name(self) -> Form:
+        """The expression in braces that computes the name of a node."""
         self.expect(symbol("{"))
         name = self.expression()
         self.expect(symbol("}"))

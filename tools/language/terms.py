@@ -80,6 +80,7 @@ def term(given: form.Form) -> Term:
 
 
 def terms(given: Iterable[form.Form]) -> list[Term]:
+    """The terms of forms, in their order."""
     return [term(part) for part in given]
 
 
@@ -94,6 +95,7 @@ def followers(rest: Iterable[tuple[str, form.Form]]) -> list[Term]:
 
 
 def string_term(it: form.String) -> Term:
+    """A string literal; one whose characters are not its bytes has a word of its own."""
     return ("txt" if is_plain(it.text) else "txt8", quoted(it.text))
 
 
@@ -106,10 +108,12 @@ def called(word: str, name: Name, arguments: list[form.Form]) -> Term:
 
 
 def call_term(it: form.Call) -> Term:
+    """A function call."""
     return called("call", *it)
 
 
 def arrow_term(it: form.Arrow) -> Term:
+    """A first operand, and the calls that take it one after another."""
     return ("arrow", term(it.first), [called("onto", *call) for call in it.calls])
 
 
@@ -122,6 +126,7 @@ def named_term(it: form.Named) -> Term:
 
 
 def primary_step_term(it: form.PrimaryStep) -> Term:
+    """A primary expression as a step, with predicates or without."""
     if it.predicates:
         return ("filtered", term(it.part), terms(it.predicates))
     return ("primary", term(it.part))
@@ -137,6 +142,7 @@ def step_of(short: str, long: str) -> Callable[[form.AttributeStep | form.ShortS
 
 
 def named_kind_term(it: form.NamedKindTest) -> Term:
+    """A kind test with the name in it, or none. Raises Refused where that has a prefix."""
     if it.name is None:
         return (f"written.{it.kind}", "None")
     wrapper = "codes" if it.kind == "ProcessingInstruction" else "bare"
@@ -144,6 +150,10 @@ def named_kind_term(it: form.NamedKindTest) -> Term:
 
 
 def for_term(it: form.For) -> Term:
+    """The bindings of `for`; one alone that has only a name and a range has a shorter word.
+
+    Raises Refused where a name has a prefix.
+    """
     first = it.bindings[0]
     if len(it.bindings) == 1 and first.position is None and not first.allows_empty:
         return ("for_in", spelled(first.name), term(first.range))
@@ -151,6 +161,10 @@ def for_term(it: form.For) -> Term:
 
 
 def each_term(it: form.Each) -> Term:
+    """A variable of `for` with what it ranges over, and that of its position, or none.
+
+    Raises Refused where a name has a prefix.
+    """
     name = "each_or_none" if it.allows_empty else "each"
     if it.position is None:
         return (name, spelled(it.name), term(it.range))
@@ -164,6 +178,10 @@ def binding_term(it: form.Binding) -> tuple[Term, ...]:
 
 
 def let_term(it: form.Let) -> Term:
+    """The bindings of `let`; one alone has a shorter word.
+
+    Raises Refused where a name has a prefix.
+    """
     if len(it.bindings) == 1:
         _, *arguments = binding_term(it.bindings[0])
         return ("let_be", *arguments)
@@ -171,6 +189,10 @@ def let_term(it: form.Let) -> Term:
 
 
 def grouping_term(it: form.Binding) -> Term:
+    """A variable of `group by` with its value, or none.
+
+    Raises Refused where the name has a prefix.
+    """
     if it.value is None:
         return ("grouping", spelled(it.name))
     return ("assigned", spelled(it.name), term(it.value))

@@ -16,6 +16,7 @@ from tools.trials.corpora import check, compute, read_back
 
 
 def main() -> int:
+    """Carries out the command; gives its status."""
     parser = argparse.ArgumentParser(description=__doc__.partition("\n")[0])
     commands = parser.add_subparsers(required=True, metavar="COMMAND")
     for name, module in (("check", check), ("compute", compute), ("read-back", read_back)):

@@ -16,6 +16,7 @@ LONGEST_QUERY = 1_048_576
 
 
 def main() -> int:
+    """Prints the replies that differ, and the counts; status 1 also where there are no replies."""
     parser = argparse.ArgumentParser(description=__doc__.partition("\n")[0])
     parser.add_argument("--server", metavar="COMMAND")
     words = parser.parse_args()

@@ -44,6 +44,11 @@ def frames_of(text: str) -> bytes:
 
 
 def shown_request(body: bytes) -> tuple[int, str]:
+    """The tag of a request, and what it asks as text, or its bytes where it is none.
+
+    Raises struct.error where the body has no whole tag, UnicodeDecodeError where a text in it is
+    not UTF-8.
+    """
     (tag,), kind, rest = struct.unpack_from(">I", body), body[4:5], body[5:]
     if kind == b"S" and rest:
         address, text = rest[1 : 1 + rest[0]], rest[1 + rest[0] :]
@@ -58,6 +63,11 @@ def shown_request(body: bytes) -> tuple[int, str]:
 
 
 def shown_reply(body: bytes) -> tuple[int, str]:
+    """The tag of a reply, and its status with its text.
+
+    Raises struct.error where the body has no whole tag, IndexError where it has no status, and
+    UnicodeDecodeError where its text is not UTF-8.
+    """
     (tag,), status, text = struct.unpack_from(">I", body), body[4], body[5:]
     return tag, f"{STATUS.get(status, f'status {status}')}: {text.decode()}"
 

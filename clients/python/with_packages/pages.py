@@ -28,6 +28,11 @@ class PageTest(unittest.TestCase):
 
     @classmethod
     def setUpClass(cls) -> None:
+        """Starts the server and the browser, which end with the class.
+
+        The page may use the clipboard, and counts as focused. Raises AssertionError if the server
+        does not start, and TimeoutError if the browser does not.
+        """
         cls.web = cls.enterClassContext(running.RunningWeb(*cls.words, place=cls.place))
         cls.browser = devtools.Browser()
         cls.addClassCleanup(cls.browser.close)

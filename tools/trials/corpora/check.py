@@ -56,6 +56,7 @@ fn main(rt: HostRuntime) -> io::Result<()> {
 
 
 def add_options(parser: argparse.ArgumentParser) -> None:
+    """Adds the word of the command: the path of the corpus."""
     parser.add_argument("corpus", metavar="CORPUS")
 
 
@@ -79,6 +80,7 @@ def wanted_of(row: Line) -> str:
 
 
 def run(given: argparse.Namespace) -> int:
+    """Prints the queries that end otherwise, and the counts; gives 0 where none does, else 1."""
     rows = lines_of(given.corpus)
     right: Counter[str] = Counter()
     total: Counter[str] = Counter()

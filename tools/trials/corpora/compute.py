@@ -64,6 +64,10 @@ def rows_of(folder: str, wanted: str) -> Iterator[Row]:
 
 
 def write(path: str, text: str) -> None:
+    """Writes a text to a file, and makes the folder of the file where there is none.
+
+    Raises OSError where that can't be done.
+    """
     os.makedirs(os.path.dirname(path), exist_ok=True)
     with open(path, "w") as file:
         file.write(text)
@@ -125,12 +129,18 @@ def told(fault: str) -> str:
 
 
 def add_options(parser: argparse.ArgumentParser) -> None:
+    """Adds the words of the command: the folder of the corpus, the set, and the most queries."""
     parser.add_argument("corpus", metavar="FOLDER", help="has docs.jsonl and public.jsonl")
     parser.add_argument("set", metavar="SET")
     parser.add_argument("--most", type=int, metavar="N")
 
 
 def run(given: argparse.Namespace) -> int:
+    """Prints the rows that are refused, and how many agree; gives 0 where all do, else 1.
+
+    Ends the script with status 1 where the corpus has no such set, or where the checker fails and
+    names no row. Raises Refused where a query is refused by another code than that of its line.
+    """
     documents_by_address = documents_of(given.corpus, given.set)
     rows = list(rows_of(given.corpus, given.set))[:given.most]
     with tempfile.TemporaryDirectory() as folder:

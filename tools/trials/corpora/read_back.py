@@ -45,11 +45,16 @@ def answers(server: harness.Server, documents: dict[str, str],
 
 
 def add_options(parser: argparse.ArgumentParser) -> None:
+    """Adds the words of the command: the paths of corpora, and the command of a server."""
     parser.add_argument("corpus", nargs="+", metavar="CORPUS")
     parser.add_argument("--server", metavar="COMMAND", help="in place of this repository's program")
 
 
 def run(given: argparse.Namespace) -> int:
+    """Prints how many replies give themselves, and how many are longer than a frame; gives 0.
+
+    Ends the script with status 1 where a query is refused, or a reply doesn't give itself.
+    """
     command = shlex.split(given.server) if given.server else [str(harness.built())]
     server, empty = harness.Server(command), harness.Server(command)
     count = long = 0

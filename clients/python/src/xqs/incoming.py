@@ -70,15 +70,19 @@ class XmlDocument:
 
     @property
     def nodes(self) -> int:
+        """The number of nodes so far."""
         return self._reader.nodes
 
     def parts(self) -> Iterator[Part]:
+        """The documents to store first, in this order. Raises XmlFault if the text is not
+        well-formed or is refused."""
         for chunk in self._chunks:
             self.read += len(chunk)
             yield from self._reader.feed(chunk)
         yield from self._reader.close()
 
     def whole(self) -> str:
+        """The text that makes the document, once the parts have been taken."""
         return self._reader.whole
 
 
@@ -91,9 +95,11 @@ class QueryDocument:
         self._text = text
 
     def parts(self) -> Iterator[Part]:
+        """No documents: the query makes the whole one."""
         return iter(())
 
     def whole(self) -> str:
+        """The text of the query."""
         return self._text
 
 
@@ -107,14 +113,21 @@ class PrintedDocument:
 
     @property
     def nodes(self) -> int:
+        """The number of nodes so far."""
         return self._document.nodes
 
     def parts(self) -> Iterator[Part]:
+        """The documents to store first, in this order.
+
+        Raises NotADocument if the events are not those of one document, and TooLarge if it has too
+        many nodes or levels.
+        """
         for part in constructor_parts(self._document, self._steps):
             self.read += len(part.text)
             yield part
 
     def whole(self) -> str:
+        """The text that makes the document, once the parts have been taken."""
         return self._document.whole()
 
 
@@ -127,6 +140,10 @@ class ConstructorDocument(PrintedDocument):
         self._reader = reader
 
     def parts(self) -> Iterator[Part]:
+        """The documents to store first, in this order. Reads the whole text at once.
+
+        Raises PlacedFault if the text is refused, or if the document has too many nodes or levels.
+        """
         try:
             parts = list(constructor_parts(self._document, self._steps))
         except TooLarge as error:

@@ -68,13 +68,17 @@ def addresses_of(text: str) -> Addresses:
 class Settled(Protocol):
     """What the futures of threads and of asyncio have in common."""
 
-    def done(self) -> bool: ...
+    def done(self) -> bool:
+        """Whether it has a result or an error, or was cancelled."""
 
-    def cancelled(self) -> bool: ...
+    def cancelled(self) -> bool:
+        """Whether it was cancelled."""
 
-    def set_result(self, result: Any, /) -> None: ...
+    def set_result(self, result: Any, /) -> None:
+        """Gives it the result. Raises InvalidStateError if it is done."""
 
-    def set_exception(self, exception: Any, /) -> None: ...
+    def set_exception(self, exception: Any, /) -> None:
+        """Gives it an error instead of a result. Raises InvalidStateError if it is done."""
 
 
 F = TypeVar("F", bound=Settled)

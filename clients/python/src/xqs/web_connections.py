@@ -86,21 +86,34 @@ class Connection(asyncio.Protocol):
         self._await_head()
 
     def data_received(self, data: bytes) -> None:
+        """Bytes have come. Hands them to the inner protocol, unless the connection is refused."""
         if not self._is_refused:
             self._inner.data_received(data)
 
     def eof_received(self) -> bool | None:
+        """The client sends no more. Tells the inner protocol, unless the connection is refused.
+
+        Returns whether the connection stays open; asyncio closes it for None.
+        """
         return None if self._is_refused else self._inner.eof_received()
 
     def pause_writing(self) -> None:
+        """The send buffer is full. Tells the inner protocol, unless the connection is refused."""
         if not self._is_refused:
             self._inner.pause_writing()
 
     def resume_writing(self) -> None:
+        """The send buffer has room again. Tells the inner protocol, unless the connection is
+        refused."""
         if not self._is_refused:
             self._inner.resume_writing()
 
     def connection_lost(self, error: Exception | None) -> None:
+        """The connection has ended, by an error or by either end.
+
+        Stops the timer, makes room for another connection, and cancels a request that ends with
+        its client. Tells the inner protocol, unless the connection is refused.
+        """
         self._has_ended = True
         self._stop_waiting()
         self._connections.end(self)

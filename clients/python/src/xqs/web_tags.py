@@ -19,7 +19,8 @@ ANY = "*"
 class Headers(Protocol):
     """The headers of a request, some with the same name."""
 
-    def getall(self, key: str, default: list[str], /) -> list[str]: ...
+    def getall(self, key: str, default: list[str], /) -> list[str]:
+        """The values of all headers with this name, or the default if there are none."""
 
 
 class StateHash:
