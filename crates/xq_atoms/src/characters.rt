@@ -1,4 +1,4 @@
-//! Characters and names of XML 1.0 (sections 2.2 and 2.3), of which queries and documents are made.
+//! Characters and names of XML 1.0 (sections 2.2 and 2.3): queries and documents consist of them.
 
 ghost use Rattle.std.specs.Prelude.{◌≡◌, slice_get};
 ghost use Rattle.std.specs.List.{list_all};

@@ -18,7 +18,7 @@ use Rattle.xq_axes.specs.private.Waiting.{IsParent}
 use Rattle.xq_axes.proofs.Siblings.{clear_parent}
 use Rattle.xq_axes.proofs.Trees.{one_parent}
 
--- # Two rows, the second of which is that of an attribute
+-- # Two rows, where the second is that of an attribute
 
 holds_attributes : (a b : Kind) → may_stand a b ≡ true → is_attribute a ≡ false
 holds_attributes Document b h = refl

@@ -298,7 +298,7 @@ module _ (t : Tree) (vs : List ℕ) (counted : List Counted) (one : Counted) whe
     number = each (λ j c. AreAttributeRows (rows t) c.place c.number) are.number number;
   })
 
--- a node of which none were counted
+-- a node for which no attribute was counted
 pub none_counted_of : (test : Test) (t : Tree) (vs : List ℕ) (counted : List Counted) (index next : ℕ) (found : List ℕ) → IsRising vs → IsSoFar test t vs index next found → AreCounted t vs counted → length counted ≡ length vs → index < length counted
     → (get_or counted index (record { place = 0; number = 0 })).number ≡ 0 → IsSoFar test t vs (index + 1) next found
 none_counted_of test t vs counted index next found up so c n l e =

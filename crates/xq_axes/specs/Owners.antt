@@ -15,7 +15,7 @@ abbrev pub owns_valued : Tree → Text → Text → ℕ → Bool
 owns_valued t name value k =
     list_any (λ p. in_region axis.Parent (rows t) p k) (valued (rows t) name value)
 
--- the same of an item that code holds, which has to be a node
+-- an item that code holds is a node, and the parent of an attribute with this name and this value
 abbrev pub has_valued : List Tree → Text → Text → ItemView → Bool
 has_valued trees name value (NodeAt n) = owns_valued (tree_at trees n.tree) name value n.pre
 has_valued trees name value (Value a) = false

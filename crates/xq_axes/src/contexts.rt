@@ -8,7 +8,7 @@ ghost use Rattle.xq_axes.specs.private.Waiting.{latest as latest_lem, rows_below
 use crate::passing::end_of_row;
 use xq_sources::LentRow;
 
-/// Places in document order, of which those before an index were met.
+/// Places in document order; those before an index were met.
 #[derive(Clone, Copy)]
 pub struct Contexts<'a> {
     places: &'a [u32],
@@ -84,7 +84,7 @@ impl<'a> Contexts<'a> {
     }
 }
 
-/// Places in document order, of which those from an index on were met.
+/// Places in document order; those from an index on were met.
 #[derive(Clone, Copy)]
 pub struct Earlier<'a> {
     places: &'a [u32],

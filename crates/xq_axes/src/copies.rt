@@ -14,7 +14,7 @@ use xq_packed::{PackedRows, PackedTree};
 use xq_sources::{LentRow, RowLender};
 use xq_trees::Node;
 
-/// Copies of rows, the first of which is at the level, as rows of a tree of their own.
+/// Copies of rows, as rows of a tree of their own. `level` is that of the first of the rows.
 #[derive(Drop)]
 struct Copied {
     level: u32,

@@ -203,9 +203,9 @@ impl<'a, D: Direction> Below<'a, D> {
         }
     }
 
-    /// How many rows right after the row, of which note was taken, are on the axis from no context:
-    /// to children those below a row that is no context and holds none, to attributes those before
-    /// the next context.
+    /// How many rows right after the row, already noted, are on the axis from no context: to
+    /// children those below a row that is no context and holds none, to attributes those before the
+    /// next context.
     fn rows_over(&self, row: &LentRow<'_>, is_context: bool, is_plain: bool) -> u32
         ensures { result ≡ rows_over_lem (D.which self.now.direction) is_context is_plain
             (slice_get self.now.contexts.places.now self.now.contexts.met) row.now.pre

@@ -108,9 +108,9 @@ fn keep_others(alloc: Global, places: &[u32], others: &[u32]) -> Result<Vec<u32>
     Ok(kept)
 }
 
-/// The places of the elements that pass the test and end before the node, of which `above` are the
-/// places of those that hold it: where the test asks for a name and the lender tells them, no row is
-/// read or looked at.
+/// The places of the elements that pass the test and end before the node, where the test asks for a
+/// name and the lender tells them. `above` are the places of the nodes that hold the node. No row
+/// is read or looked at.
 pub fn named_before<L: RowLender>(
     alloc: Global,
     source: &L,

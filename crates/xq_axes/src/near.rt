@@ -19,9 +19,9 @@ use xq_atoms::Want;
 use xq_meaning::Test;
 use xq_sources::{LentRow, RowLender};
 
-/// Of how many places of a name the parents are asked for, from the last one below a node on, to
-/// find its last child with the name. There may be any number of them below a later child, none of
-/// which is read where the children are walked over.
+/// How many places of a name have their parents asked for, from the last one below a node on, to
+/// find its last child with the name. There may be any number of places below a later child, and
+/// none of them is read where the children are walked over.
 const MOST_ASKED: usize = 32;
 
 /// A node whose children or attributes are looked for, as its row has it.

@@ -69,7 +69,7 @@ fn is_before(end: u64, place: u32, is_plain: bool) -> bool
     end < u64::from(place) && is_plain
 }
 
-/// Judges rows before a context, of which the last counts.
+/// Judges rows before a context: only the last context counts.
 #[derive(Clone, Copy)]
 struct Preceding<'a> {
     places: &'a [u32],
@@ -181,8 +181,8 @@ pub fn end_of_node<L: RowLender>(
     Ok(end_of_row(&row))
 }
 
-/// The places of the nodes that are on the preceding axis from one of the places, of which `last` is
-/// the last, and pass the test: the rows before it are read.
+/// The places of the nodes that are on the preceding axis from one of the places and pass the test:
+/// the rows before `last`, the last of the places, are read.
 fn walk_before<L: RowLender>(
     alloc: Global,
     source: &mut L,

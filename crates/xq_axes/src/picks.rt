@@ -15,7 +15,7 @@ use xq_atoms::Want;
 use xq_meaning::Test;
 use xq_sources::LentRow;
 
-/// Places in a tree, of which a few take no allocation: most steps from one node lead to few.
+/// Places in a tree. A few take no allocation: most steps from one node lead to few.
 pub type Places = SmallVec<u32, 4>;
 
 /// How many places take no allocation.

@@ -13,7 +13,7 @@ pub enum Asked {
     NoRoom,
 }
 
-/// A database that is to be served.
+/// A database to serve.
 #[derive(Debug, Drop)]
 pub struct Task {
     /// The path of its file. Where there is none it lives in memory.

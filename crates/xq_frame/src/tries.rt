@@ -22,7 +22,7 @@ impl Tries {
         Tries { left: BORNE }
     }
 
-    /// Whether a call that failed so is to be made again. It then counts as one interruption.
+    /// Whether a call that failed so should be made again. It then counts as one interruption.
     pub(crate) fn allows(&mut self, error: &Error) -> bool
         ensures interrupted { result ≡ true → error_kind error.now ≡ ErrorKind.Interrupted }
         ensures counted { result ≡ true → self.new.left + 1 ≡ self.old.left }

@@ -1,4 +1,4 @@
-//! How many atoms an argument may have, and of which types (XQuery 3.1, section 3.1.5.2).
+//! How many atoms an argument may have, and their types (XQuery 3.1, section 3.1.5.2).
 ghost use Rattle.std.specs.Prelude.{◌≡◌, ◌<◌, ◌^◌, length, IfOk};
 ghost use Rattle.std.specs.Option.{option_map};
 ghost use Rattle.xq_atoms.specs.Atom.{atomic_of};

@@ -34,7 +34,7 @@ impl Class {
     }
 }
 
-/// Whether the character may stand in a query. Most are letters, of which one look tells.
+/// Whether the character may stand in a query. Most are letters, and one look tells these.
 #[tactic(auto, unfolding(xq_atoms::specs::Characters::is_char))]
 fn is_written(c: char) -> bool
     ensures { result ≡ is_char_lem c }
@@ -42,7 +42,7 @@ fn is_written(c: char) -> bool
     matches!(c, ' '..='\u{D7FF}') || is_char(c)
 }
 
-/// Whether the character may stand in a name. Most are small letters, of which one look tells.
+/// Whether the character may stand in a name. Most are small letters, and one look tells these.
 #[tactic(auto, unfolding(xq_atoms::specs::Characters::is_name_char, xq_atoms::specs::Characters::is_name_start))]
 fn is_in_name(c: char) -> bool
     ensures { result ≡ is_name_char_lem c }

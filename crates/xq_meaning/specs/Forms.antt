@@ -185,7 +185,7 @@ module _ {E : Type 0} where
     answer ← first_that false (λ part. tested part frame) parts
     give (boolean answer)
 
-  -- # 3.14: conditional expressions, of which one branch is evaluated
+  -- # 3.14: conditional expressions; one branch of each is evaluated
 
   abbrev pub chosen : Bool → Meaning E → Meaning E → Meaning E
   chosen true yes' no' = yes'

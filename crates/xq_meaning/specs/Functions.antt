@@ -300,7 +300,7 @@ abbrev pub of_many : Function → List (List Atomic) → Judged (List Item)
 of_many f.Concat lists = concat lists
 of_many function lists = Err XPST0017
 
--- what a call gives from the values of its arguments, over these trees, of which the first are the
+-- what a call gives from the values of its arguments, over these trees, which begin with the
 -- documents
 abbrev pub called : Function → List Tree → List Text → Option Focus → List (List Item) →
     Judged (List Item)

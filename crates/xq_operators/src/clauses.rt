@@ -36,7 +36,7 @@ fn distinct(alloc: Global, slots: &[usize]) -> Result<Vec<usize>, Want>
     Ok(distinct)
 }
 
-/// The atoms of the items, of which one is put into no list.
+/// The atoms of the items. The atom of a single item is put into no list.
 fn key_of<L: RowLender>(alloc: Global, source: &mut L, items: &[Item]) -> Result<Key, Want>
     ensures value { L.is_clean source.new → IfOk result (λ key. values_in key
         ≡ atomized_lem (L.forest source.old) (items_at (L.forest source.old) (map item_view

@@ -57,7 +57,7 @@ pub record IsAlike (s t : Shape) : Type 0 where
   pub level : t.level ≡ s.level
   pub kind : t.kind ≡ s.kind
 
--- shapes, the last of which is another
+-- the new shapes are in the longer text, and their rows are the old ones with a longer last value
 pub record IsLonger (text value : Text) (names : List Text) (start : ℕ) (old new : List Shape) : Type 0 where
   pub shapes : AreShapes (text ++ value) names start new
   pub end : last_end start new ≡ length (text ++ value)

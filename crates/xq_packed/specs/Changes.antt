@@ -20,7 +20,7 @@ longer more r =
       label = record { kind = r.label.kind; name = r.label.name; value = r.label.value ++ more };
     }
 
--- the rows, the last of which has more at the end of its value
+-- the rows, with more at the end of the last row's value
 abbrev pub with_longer_last : List ℕ → List Row → List Row
 with_longer_last more [] = []
 with_longer_last more (r ∷ []) = longer more r ∷ []
@@ -30,6 +30,6 @@ with_longer_last more (r ∷ q ∷ rows) = r ∷ with_longer_last more (q ∷ ro
 abbrev pub resized : ℕ → Row → Row
 resized size r = record { size = size; level = r.level; label = r.label }
 
--- the rows, one of which has another size
+-- the rows, where the one at a place has another size
 abbrev pub with_size : ℕ → ℕ → List Row → List Row
 with_size at size rows = slice_set rows at (resized size (row_at rows at))

@@ -140,9 +140,9 @@ fn count_up_to(rows: &PackedRows, places: &[u32], value: &str) -> usize
 }
 
 impl ValuePlaces {
-    /// Looks for the attributes with the name; none where their places would take more than so many
-    /// bytes, of which nothing was taken then. While values that don't ascend are sorted, as many
-    /// bytes again are taken for a while.
+    /// Looks for the attributes with the name. Gives none where their places would take more than
+    /// `most` bytes, and takes none of these bytes then. While values that don't ascend are sorted,
+    /// as many bytes again are taken for a while.
     pub fn find(
         alloc: Global,
         rows: &PackedRows,

@@ -122,7 +122,7 @@ computed_names n e p is h focus addresses trees =
     ∙ sym (ap (λ k. k (frame_of no_variable focus addresses) trees) (ap name_mean is ∙
     mean_eq.name-Computed e))
 
--- # An expression of a known form, of which parts were handed on
+-- # An expression of a known form, whose parts were handed on
 
 direct_at : (e x : Expr) (p : Plan) → e ≡ x → IsDirect x p → IsDirect e p
 direct_at e x p is h = subst (λ (y : Expr). IsDirect y p) (sym is) h

@@ -34,7 +34,7 @@ value_of (Err code, trees) = Err code
 abbrev pub value : Expr → List Text → List Tree → Judged Value
 value e addresses trees = value_of (evaluated e addresses trees)
 
--- the same of a plan
+-- the value of a plan over the documents at these addresses
 abbrev pub plan_value : Plan → List Text → List Tree → Judged Value
 plan_value plan addresses trees = value_of (plan_mean plan (frame_of [] None addresses) trees)
 

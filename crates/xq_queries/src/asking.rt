@@ -21,10 +21,10 @@ use xq_packed::PackedTree;
 use xq_sources::{Addresses, RowLender, TreeStore};
 use xq_trees::Item;
 
-/// The text of the plan's value over the trees of `world`, of which the first are the documents at
-/// `addresses`: its items as expressions that give them. It is refused with the code of the
-/// plan's error, or as `prof:REPLY` where the text is over 16,777,216 bytes. Where there is a text,
-/// the numbers of the value are within the bounds of their types.
+/// The text of the plan's value over the trees of `world`, which begin with the documents at
+/// `addresses`: its items as expressions that give them. It is refused with the code of the plan's
+/// error, or as `prof:REPLY` where the text is over 16,777,216 bytes. Where there is a text, the
+/// numbers of the value are within the bounds of their types.
 ///
 /// Where the plan is a document by its address and k scans, it reads at most k times as many rows
 /// as that document has, by ranges and singly, whatever the outcome; and to print the value at most

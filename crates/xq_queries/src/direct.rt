@@ -1,5 +1,5 @@
 //! Plans of literals, sequences, conditionals and constructors, form by form: a document that is
-//! written out has a part for each of its nodes, of which no normal form is made on the way.
+//! written out has a part for each of its nodes, and no normal form of these is made on the way.
 ghost use Rattle.std.specs.Prelude.{◌≡◌, [], IfErr, IfOk};
 ghost use Rattle.xq_atoms.specs.declared.refusals.Want.TheVariants.{Memory};
 ghost use Rattle.xq_meaning.specs.declared.plans.Plan.TheVariants as plan_of;

@@ -1,4 +1,4 @@
-//! The documents that the tables speak of: one list of rows, of which each source is made.
+//! The documents that the tables speak of: one list of rows each, from which every source is made.
 
 use std::alloc::{AllocError, Global};
 use xq_atoms::Want;

@@ -15,8 +15,8 @@ enum Reading {
     Node(u32),
 }
 
-/// What is read, of which tree, and the places of the rows that are found; none where the reading
-/// is refused.
+/// What is read, the number of its tree, and the places of the rows that are found; none where the
+/// reading is refused.
 type Read = (Reading, usize, Option<&'static [usize]>);
 
 const READS: [Read; 15] = [
@@ -37,7 +37,8 @@ const READS: [Read; 15] = [
     (Reading::Node(0), 2, None),
 ];
 
-/// The nodes whose nodes above are read, of which tree, and the places of the rows that are found.
+/// The nodes whose nodes above are read, the numbers of their trees, and the places of the rows
+/// that are found.
 const ABOVE: [(u32, usize, Option<&'static [usize]>); 5] = [
     (4, 1, Some(&[0, 1, 2])),
     (7, 1, Some(&[0, 1, 5])),

@@ -24,7 +24,7 @@ pub enum From {
 pub enum To {
     /// Those at these places.
     At(&'static [u32]),
-    /// So many, of which the first and the last have these places.
+    /// So many; the first and the last have these places.
     Ends(usize, u32, u32),
 }
 

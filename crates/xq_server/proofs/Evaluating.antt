@@ -55,7 +55,7 @@ made_over makes plan m addresses trees result at are made =
 pub over_trees : (P : List Tree → Type 0) (n : ℕ) (trees same : List Tree) → same ≡ trees → (n ≤ length same → P same) → n ≤ length trees → P trees
 over_trees P n trees same is holds = subst (λ ts. n ≤ length ts → P ts) is holds
 
--- the meter of a view of which nothing was read, and that of no constructed tree, show nothing together
+-- the meter of a view that has read nothing, and that of no constructed tree, show nothing together
 pub read_from_none : (P : List Tree → Readings → Readings → Type 0) (n : ℕ) (trees same : List Tree) (before view after : Readings) → same ≡ trees → before ≡ sum view no_readings → view ≡ no_readings
     → (n ≤ length same → P same before after) → n ≤ length trees → P trees no_readings after
 read_from_none P n trees same before view after is summed none holds fits =

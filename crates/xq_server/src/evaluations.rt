@@ -47,7 +47,7 @@ pub(crate) fn evaluate<S: Alter + Drop, P: Product>(
     replace_with(store, question, product_of)
 }
 
-/// A plan, and what is to be made of its value.
+/// A plan, and what to make of its value.
 #[derive(Clone, Copy)]
 struct Question<'a, P> {
     alloc: Global,
@@ -104,7 +104,7 @@ fn over_view<S: Alter + Drop, P: Product, O: Origin>(
     (world.into_source().into_store(), product)
 }
 
-/// What the plan's value makes over the trees of a view of which nothing was read, those of the
+/// What the plan's value makes over the trees of a view that has read nothing yet, those of the
 /// documents at `addresses`; and these trees, with those that were constructed.
 ///
 /// Their meter shows what was read, since the view began with none: the rows that were asked for,

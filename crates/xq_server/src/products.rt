@@ -27,8 +27,8 @@ pub(crate) trait Product: Sized {
     /// How much was read of the documents, by what the meter showed before and after.
     ghost has_read: { PlanLem → List Text → List Tree → Readings → Readings → Type 0 };
 
-    /// What the plan's value makes over the trees of `world`, of which the first are the documents
-    /// at `addresses`.
+    /// What the plan's value makes over the trees of `world`, which begin with the documents at
+    /// `addresses`.
     fn of<W: TreeStore>(
         alloc: Global,
         plan: &Plan,

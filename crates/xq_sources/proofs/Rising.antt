@@ -22,7 +22,7 @@ is_same a b e = slice_cmp-IsAntisymmetric nat_cmp-IsAntisymmetric a b e
 
 -- # Lists
 
--- what stands somewhere in a list of which all have a property
+-- what stands somewhere in a list has the property that all in the list have
 pub at_all : {X : Type 0} (P : X → Type 0) (xs : List X) (i : ℕ) (x : X) → AllByRecursion P xs → slice_get xs i ≡ Some x → P x
 at_all P [] i x all e = absurd cc
 at_all P (y ∷ xs) zero x all e = subst (λ o. IfSome o P) e all.0

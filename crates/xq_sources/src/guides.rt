@@ -94,8 +94,8 @@ impl Guide {
         add_parents(&mut self.parents, rows, lasts)
     }
 
-    /// Of each level, where the last row lies that has it, of the last row of which the parent is
-    /// kept and those above that row.
+    /// The place of the last row of each level, among the last row whose parent is kept and the
+    /// rows above that row.
     fn lasts(&self, rows: &LentRows<'_>) -> [u32; LEVELS] {
         let mut lasts = [0; LEVELS];
         let mut place = self.parents.len().saturating_sub(1);
@@ -189,8 +189,8 @@ pub fn guide_to(alloc: Global, guides: &mut Vec<Guide>, tree: usize, rows: &Lent
     }
 }
 
-/// Adds the places of the parents of the rows that come after those of which they are there. Of
-/// each level it is given where the last row before lies that has it.
+/// Adds the places of the parents of the rows that come after the rows whose parents are there.
+/// `lasts` has for each level the place of the last row before that has it.
 fn add_parents(
     parents: &mut Vec<u32>,
     rows: &LentRows<'_>,

@@ -37,7 +37,7 @@ stops (OfWant Store) xs ys h = absurd h
 pub passes : (r : Judged) (xs ys : List Place) → first_fault xs ≡ None → Judges r (first_fault ys) → Judges r (first_fault (xs ++ ys))
 passes r xs ys h j = subst (Judges r) (sym (none-then xs ys h)) j
 
--- the same of a place before others
+-- a refusal at a place before others is that of all
 pub first_stops : (e : Fault) (first rest : Option Code) → Judges (Err e) first → Judges (Err e) (option_or first rest)
 first_stops (OfCode code) first rest h = ap (λ o. option_or o rest) h
 first_stops (OfWant Memory) first rest h = tt

@@ -11,10 +11,10 @@ use xq_store::Store;
 /// A file that answers so many calls, and fails each one after.
 pub type Stopping = Fuse<Memory>;
 
-/// A database on a log and a file, one of which may stop.
+/// A database on a log and a file; one of the two may stop.
 type Base = Connection<FileStore<Stopping>>;
 
-/// A store on a log and a database, one of which may stop.
+/// A store on a log and a database; one of the two may stop.
 pub type StoppingStore = Store<FileStore<Stopping>>;
 
 /// A log of so many pages is copied into the database. Few pages are kept, so that the files are

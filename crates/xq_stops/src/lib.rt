@@ -1,6 +1,6 @@
-//! Stops of the disk, for tests of stores and tests of the server: a store on two files of which
-//! one answers so many calls, and fails each one after. What was not synced by then is lost, and
-//! the store is opened again. No crate of the program stands on it.
+//! Stops of the disk, for tests of stores and tests of the server: a store is on two files, and one
+//! of them answers so many calls, and fails each one after. What was not synced by then is lost,
+//! and the store is opened again. No crate of the program stands on it.
 #![tactic(auto)]
 
 mod files;

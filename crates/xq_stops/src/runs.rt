@@ -1,4 +1,4 @@
-//! Runs over a store of which one file stops, and what is found there after a crash.
+//! Runs over a store where one file stops, and what is found there after a crash.
 
 use crate::files::{
     Contents, Stopping, StoppingStore, adopted, after_crash, closed, contents_made, files_of,

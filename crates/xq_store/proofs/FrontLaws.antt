@@ -308,7 +308,7 @@ as_many [] (f ∷ fronts) are = elim are [ ]
 as_many (t ∷ trees) [] are = elim are [ ]
 as_many (t ∷ trees) (f ∷ fronts) are = ap suc (as_many trees fronts are.1)
 
--- a tree of which rows are kept is there
+-- a tree is there where rows of it are kept
 pub has_front : (fronts : List CachedDocument) (tree place : ℕ) → place < length (front_at fronts tree) → tree < length fronts
 has_front [] tree place h = absurd (omega (arith, h))
 has_front (front ∷ fronts) zero place h = omega arith

@@ -169,7 +169,7 @@ module _ {S : Type 0} (g : Ghosts S) where
             rows = subst (λ ks. AreFronts (map (tree_at (shown_rows (state g conn).now)) ks) l.fronts.items) (sym same) (roomy.3 _ was.rows);
           }
 
-  -- a new store, of which no address is kept
+  -- a new store, with no address kept
   pub keeping_empty : (conn : Held S) → conn.in_transaction ≡ false → IsEmptyStore (state g conn).now → (shelf : Option Cache) → IfSome shelf (λ s. (s.addresses.value ≡ []) × (s.fronts.items ≡ [])) → IsKeeping g conn shelf
   keeping_empty conn mode made shelf are = record { outside = mode; holds = λ _. made.0; keeps = go shelf are }
     where

@@ -1,4 +1,4 @@
--- A database over files of which no disk ever lies.
+-- A database over files whose disks never lie.
 use Rattle.std.proofs.Common.{◌≡◌, true, refl}
 use Rattle.sqlite_trees.proofs.Doubt.{no_doubt}
 use Rattle.sqlite_pool.specs.Pool.{state}

@@ -5,8 +5,7 @@ use Rattle.sqlite.specs.Held.{Held, state}
 use Rattle.xq_tables.specs.Labels.{IsStoreSchema}
 use Rattle.xq_tables.specs.Tables.{no_schema, IsOldSchema}
 
--- A connection whose database is to be adopted: `g` are the ghosts of what it keeps its database
--- in.
+-- A connection with a database to adopt: `g` are the ghosts of what it keeps its database in.
 module _ {S : Type 0} (g : Ghosts S) (conn : Held S) where
   -- no table was made in it
   unfoldable pub IsBlank : Type 0

@@ -46,7 +46,7 @@ pub record Beginning : Type 0 where
   pub is_open : Bool
   pub is_clean : Bool
 
--- A store, of which a contract sees its connection: `g` are the ghosts of what it keeps its
+-- A store, as a contract sees it: its connection. `g` are the ghosts of what it keeps its
 -- database in.
 module _ {S : Type 0} (g : Ghosts S) (store : Held S) where
   -- the store as it now is, for a view of it to begin with

@@ -81,15 +81,15 @@ pub(crate) struct Cache {
     /// How often rows were wanted that had to be read, a document came with its rows, or a view
     /// began.
     pub clock: u64,
-    /// The name that was looked for last in a document of which not all rows were here: it is
-    /// looked for once they are.
+    /// The name that was looked for last in a document whose rows were not all here: it is looked
+    /// for once they are.
     pub sought: SoughtName,
     /// Whether the store may keep this when its view ends.
     pub stays: bool,
 }
 
-/// A name that is to be looked for in a tree, or none. (A `None` would give each drop of a cache two
-/// ways, and each proof of one as many cases.)
+/// A name to look for in a tree, or none. (A `None` would give each drop of a cache two ways, and
+/// each proof of one as many cases.)
 #[derive(Drop)]
 pub(crate) struct SoughtName {
     tree: usize,
@@ -350,8 +350,8 @@ pub(crate) fn are_whole(rows: &LentRows<'_>) -> bool
     root.size as usize + 1 == rows.len()
 }
 
-/// Takes note that a name is to be looked for in a tree once all its rows are here: where they
-/// aren't, and the places of the name aren't kept.
+/// Takes note of a name to look for in a tree once all its rows are here: where they aren't, and
+/// the places of the name aren't kept.
 pub(crate) fn note_sought(
     alloc: Global,
     fronts: &[CachedDocument],
@@ -375,7 +375,7 @@ pub(crate) fn note_sought(
     };
 }
 
-/// The name that is to be looked for in a tree, where one is.
+/// The name to look for in a tree, where there is one.
 pub(crate) fn sought_in(sought: &SoughtName, tree: usize) -> Option<&str> {
     if sought.tree == tree {
         Some(sought.name.as_str())

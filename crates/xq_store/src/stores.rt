@@ -1,7 +1,7 @@
 //! The store: a map from address to document, kept in a database.
 //!
 //! Each clause on the map stands under `IsClean` as the call ends (the disk has returned what was
-//! written), which `was_clean` takes back to the call before, and speaks of whichever map the store
+//! written), which `was_clean` takes back to the call before, and speaks of any map that the store
 //! stands for as the call begins. A store that has shut, after a fault or where memory ran out in a
 //! commit, stands for the map that it stood for then: each later call is refused, by `answered`.
 ghost use Rattle.std.specs.Prelude.{◌≡◌, ◌⊎◌, [], IfErr, IfOk, IfSome, IsTrue, OnErr, OnOk, Some, map, string_bytes, if◌then◌else◌, false};

@@ -12,7 +12,7 @@ use xq_store::{Put, Store};
 pub enum Call {
     List(&'static [&'static str]),
     Put(&'static str, Document, Put),
-    /// A put that hands its document over, the rows of which are kept.
+    /// A put that hands its document over to the store, which keeps the document's rows.
     HandOver(&'static str, Document, Put),
     Load(&'static str, Option<Document>),
     Drop(&'static str, bool),

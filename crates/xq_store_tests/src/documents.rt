@@ -73,7 +73,7 @@ pub const TURNED: Document = Document::Turned;
 
 pub const RENUMBERED: Document = Document::Renumbered;
 
-/// The document with these rows, of which the first is its root and tells how many stand below it.
+/// The document with these rows. The first is its root, and tells how many stand below it.
 fn rooted(rows: Vec<NodeRow>) -> Result<RowTree, Want> {
     let mut rows = rows;
     let count = rows.len().min(1_000_000) as u32;

@@ -35,7 +35,7 @@ shown_since sql params old mid new rows plain same h =
     )
 
 module _ {S : Type 0} (g : Ghosts S) where
-  -- a reading has given rows of which a property holds, since it had given none
+  -- a reading that had given no row has now given rows that have a property
   pub record IsUnderWay (first now : Held S) (P : List Row → Type 0) : Type 0 where
     pub mode : first.in_transaction ≡ false → now.in_transaction ≡ false
     pub clean : doubt (state g first).is_clean ≤ doubt (state g now).is_clean

@@ -123,7 +123,7 @@ pub record IsOldStore (db : Database) : Type 0 where
 abbrev pub IsReady : State → Type 0
 IsReady s = HasCleanDisk s × IsTrue s.is_open
 
--- A store, of which a contract sees its connection: `g` are the ghosts of what it keeps its
+-- A store, as a contract sees it: its connection. `g` are the ghosts of what it keeps its
 -- database in.
 module _ {S : Type 0} (g : Ghosts S) (store : Held S) where
   -- Its disk has returned what was written; so it had at each call before. A database in memory

@@ -55,7 +55,7 @@ fn is_edition(rows: &[Row], edition: i64) -> bool
     }
 }
 
-/// Judges the edition: it is to be this.
+/// Judges the edition: it must be this one.
 fn check_edition<S: Alter>(conn: &mut Connection<S>, edition: i64) -> Result<(), OpenFault>
     requires outside { conn.old.in_transaction ≡ false }
     requires tables { HasLayout (state S.Store conn.old).now.schema }
@@ -97,7 +97,7 @@ fn id_after(last: Option<i64>, row: &Row) -> Option<i64>
     }
 }
 
-/// Judges the rows of one column that an answer gives from here on: they are to be integers that
+/// Judges the rows of one column that an answer gives from here on: they must be integers that
 /// rise. It says how many there are; an answer that would not end is refused.
 fn check_rising<S: Alter>(rows: &mut Rows<'_, S>) -> Result<u64, OpenFault>
     ensures same_reference { rows.new.conn.ghost_name ≡ rows.old.conn.ghost_name }
@@ -190,7 +190,7 @@ fn has_rows<S: Alter>(conn: &mut Connection<S>, text: &str) -> Result<bool, Open
     Ok(!rows.is_empty())
 }
 
-/// Whether labels are as they are to be: one is 0, and none is below or above what one may be.
+/// Whether labels are as they must be: one is 0, and none is below or above what one may be.
 fn is_numbering(has_zero: bool, has_low: bool, has_high: bool) -> bool
     ensures { IsTrue result ↔ (IsTrue has_zero × (has_low ≡ false) × (has_high ≡ false)) }
 {

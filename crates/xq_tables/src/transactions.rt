@@ -34,8 +34,8 @@ pub fn drop_rows<S: Alter>(conn: &mut Connection<S>, address: &str) -> Result<us
     Ok(count)
 }
 
-/// Puts these rows in the place of those of the address, of which the first are at hand as far as
-/// they are kept, and says whether there were any.
+/// Puts these rows in the place of those of the address, and says whether there were any. `kept`
+/// are the first of the old rows, as many as are kept.
 pub fn put_rows<S: Alter>(
     alloc: Global,
     conn: &mut Connection<S>,

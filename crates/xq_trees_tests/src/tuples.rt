@@ -58,7 +58,7 @@ fn column(alloc: Global, keys: &[i64]) -> Result<Vec<Vec<Atom>>, Fault> {
     Ok(column)
 }
 
-/// The keys of a tuple, of which there is one.
+/// The keys of a tuple, where there is only one.
 fn key_row(alloc: Global, number: i64) -> Result<Vec<Key>, Fault> {
     let mut row = Vec::new(alloc);
     row.push(Key::One(Atom::Int(number)))?;
@@ -133,7 +133,7 @@ fn begin_with(items: &[Item], number: Option<&i64>, count: Option<&usize>) -> bo
     }
 }
 
-/// Whether the tuples hold in slot 0 so many items each, of which the first are these numbers.
+/// Whether the tuples hold in slot 0 so many items each, and the first items are these numbers.
 fn hold(
     rt: &impl Abort,
     stream: &Tuples,

@@ -173,7 +173,7 @@ fn sort(
     Ok(())
 }
 
-/// The numbers of so many tuples in the order of their keys, each of which is looked up.
+/// The numbers of so many tuples in the order of their keys, where each key is looked up.
 fn sorted_by_keys(
     alloc: Global,
     specs: &[OrderSpec],

@@ -67,7 +67,7 @@ fn is_light(item: &Item) -> bool {
     }
 }
 
-/// Whether there is one item, of which a copy takes no allocation.
+/// Whether there is one item, and a copy of it takes no allocation.
 fn is_one_light(items: &[Item]) -> bool
     ensures { result ≡ true → length items.now ≡ 1 }
 {

@@ -269,7 +269,7 @@ impl Tuples {
         self.group_by_keys(slots, columns)
     }
 
-    /// `group by`, as [`Tuples::group`], from keys of which one that is one value is no list.
+    /// `group by`, as [`Tuples::group`], from keys; a key that is one value is no list.
     pub fn group_by_keys(self, slots: &[usize], keys: Vec<Vec<Key>>) -> Result<Tuples, Fault>
         requires slots { length slots.now ≡ length keys.items }
         requires keys { All (λ column. length column ≡ length self) (rows_in keys) }

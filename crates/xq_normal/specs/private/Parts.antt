@@ -57,7 +57,7 @@ path start found = Forms.path start found
 abbrev pub rooted : Separator → Meaning → List Meaning → Meaning
 rooted separator first later = Forms.path Forms.root (after separator first ++ later)
 
--- a path, of which what follows its first step is in parts
+-- a path: how it starts, its first step, and the parts that follow that step
 abbrev pub path_from : PathStart → Meaning → List Meaning → Meaning
 path_from Relative first later = Forms.path first later
 path_from Root first later = rooted Slash first later

@@ -103,7 +103,7 @@ module _ (outer own : List Text) (found : List Text) where
       (in_turn (next_clause (frame_of slots focus addresses)) tuples (map plan_clause_mean ps)
       trees)
 
--- by the names in scope before and after, of which those from a place on are of the FLWOR
+-- by the names in scope before and after; those from a place on are of the FLWOR
 
 abbrev pub IsClause : ℕ → List Text → CoreClause → PlanClause → List Text → Type 0
 IsClause start before c p after =

@@ -7,7 +7,8 @@ use Rattle.xq_axes.specs.private.Downward.{axis_of, IsSearched}
 use Rattle.xq_axes.proofs.Scans.{in_some}
 use Rattle.xq_axes.proofs.downward.search_below.Given as goal
 
--- what is in the rows before the next was found, of which each was read once at most, and the places so far are before it
+-- what is in the rows before the next was found, each row was read once at most, and the places so
+-- far are before the next
 abbrev pub invariant-loop-place : goal.invariant-loop-place
 invariant-loop-place g l =
     let t = tree_at (g.L.TreeSource.forest l.initial.source) l.tree in

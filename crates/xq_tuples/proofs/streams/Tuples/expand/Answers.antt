@@ -57,7 +57,7 @@ grown c =
 pub loop-index-preserved : goal.loop-index-preserved
 loop-index-preserved c = grown ((goal.at.loop-index-preserved c).In_ok-push_each)
 
--- the tuples are as wide as they are to be
+-- the tuples are as wide as they should be
 wide : (c : In_ok-push_each) → Stands (c.loop-index.count + c.len-more.result) (c.self.inside.width + slots_bound c.args.at) (values_of c.push_each.new.slots.items) (expanded Value false c.args.at c.args.self (map items_in (c.loop-index.yielded ++ (c.in-Some.index, c.in-Some.items) ∷ [])))
 wide c =
     let i = c.self.inside in

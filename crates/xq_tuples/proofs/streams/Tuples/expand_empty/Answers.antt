@@ -58,7 +58,7 @@ grown c =
 pub loop-index-preserved : goal.loop-index-preserved
 loop-index-preserved c = grown ((goal.at.loop-index-preserved c).In_ok-push_each_or_empty)
 
--- the tuples are as wide as they are to be
+-- the tuples are as wide as they should be
 wide : (c : In_ok-push_each_or_empty) → Stands (c.loop-index.count + c.max-more.result) (c.self.inside.width + slots_bound c.args.at) (values_of c.push_each_or_empty.new.slots.items) (expanded Value true c.args.at c.args.self (map items_in (c.loop-index.yielded ++ (c.in-Some.index, c.in-Some.items) ∷ [])))
 wide c =
     let i = c.self.inside in

@@ -77,7 +77,7 @@ loop-holds-preserved c =
           })
     ]
 
--- what is kept is that of which the tests hold
+-- the tuples that are kept are those that pass the tests
 stood : (c : After-truncate) → Stands c.loop-holds.count c.self.inside.width (values_of c.truncate.new.self.items) (satisfying c.args.self c.args.tests.now)
 stood c =
     let i = c.self.inside in
