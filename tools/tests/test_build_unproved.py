@@ -94,15 +94,27 @@ class Place(unittest.TestCase):
         self.assertEqual(to.read_text(), CHECKED)
         self.assertEqual(list(to.parent.parent.iterdir()), [to.parent])
 
+    def test_a_quick_program_has_a_place_of_its_own(self) -> None:
+        quick = self.program.quick()
+        for program in (self.program, quick):
+            program.kept.mkdir(parents=True)
+            build_unproved.put(self.source, program.place())
+        self.assertEqual(self.program.place().read_text(), CHECKED)
+        self.assertEqual(quick.place().read_text(), CHECKED)
+        self.assertNotIn(self.program.kept, quick.place().parents)
+        words = build_unproved.at_speed([*KIT, *AS_WATCHED], "kept.bc", "app.o", quick.level)
+        self.assertEqual([it for it in words if it.startswith("-O")], ["-O0"])
+
     @unittest.skipUnless(repository.kit(), "needs the kit")
     def test_the_program_answers_and_stops_where_a_check_fails(self) -> None:
         (self.top / "crates" / "app" / "stdin").write_text("a\n")
         (self.top / "crates" / "app" / "stdout").write_text("2\n")
-        program = build_unproved.build(self.program)
-        for name, good, answer, bad in FAULTS:
-            with self.subTest(name):
-                self.assertEqual(ran(program, good), (0, f"{answer}\n"))
-                self.assertEqual(ran(program, bad), (-signal.SIGILL, ""))
+        for place in (self.program, self.program.quick()):
+            program = build_unproved.build(place)
+            for name, good, answer, bad in FAULTS:
+                with self.subTest(name, level=place.level[0]):
+                    self.assertEqual(ran(program, good), (0, f"{answer}\n"))
+                    self.assertEqual(ran(program, bad), (-signal.SIGILL, ""))
 
     @unittest.skipUnless(repository.kit(), "needs the kit")
     def test_a_program_that_fails_its_stored_run_is_not_put(self) -> None:

@@ -1,17 +1,17 @@
 """The pages' links lead somewhere, and the files and commands that they name are there."""
 
+import functools
 import pathlib
 import re
 import shutil
 import subprocess
+import sys
 import unittest
 from collections.abc import Iterator
 
-from tools.common.repository import TOP
-from tools.tests.test_scripts import modules
+from tools.common.repository import TOP, environment
+from tools.tests.test_scripts import OPTION, PAGES, modules
 
-PAGES = (*sorted(TOP.glob("*.md")), *sorted(TOP.glob("docs/*.md")),
-         *sorted(TOP.glob("clients/*/*.md")), TOP / "tools" / "README.md")
 PAST = ("CHANGELOG.md",)
 """Pages that speak of files that are gone."""
 LINK = re.compile(r"\[[^\]]*\]\(([^)\s]+)\)")
@@ -19,6 +19,12 @@ FILE = re.compile(r"(?<![\w./-])((?:tools|bench|clients|docs|crates)/[\w./-]*\w)
 SCRIPT = re.compile(r"\btools/run\s+(\w+)")
 PLACE = re.compile(r"`(?:(xq_\w+)/)?(?:src/|specs/)?(\w+\.(?:rt|antt))`((?:(?::|,)\s`[\w:]+`)*)")
 SAMPLES = re.compile(r"```.*?```", re.DOTALL)
+CALL = re.compile(r"(?:`(?:\./)?|^ {4,}(?:\$ )?\./)xqs ([a-z]+)(?![\w:])([^`\n]*)", re.MULTILINE)
+"""A command of the client, in the text or on a line of its own, and the words behind it."""
+CLUMSY = re.compile(r"\b(?:of\s+which|(?:is|are)\s+to\s+be|such\s+of)\b", re.IGNORECASE)
+"""Words that a plain sentence doesn't need."""
+QUOTING = ("shapes.py",)
+"""Files that have such words in a text of the data."""
 
 
 def anchors(page: str) -> set[str]:
@@ -39,6 +45,19 @@ def broken_links(file: pathlib.Path) -> Iterator[str]:
             yield f"{file.name}: {link}: there is no such file"
         elif anchor and target.suffix == ".md" and anchor not in anchors(target.read_text()):
             yield f"{file.name}: {link}: there is no such heading"
+
+
+def calls(page: str) -> Iterator[tuple[str, list[str]]]:
+    """The commands of the client that a page names, each with its options."""
+    for command, words in CALL.findall(page):
+        yield command, OPTION.findall(words.partition(" -- ")[0])
+
+
+@functools.cache
+def client_help(command: str) -> str:
+    """What a command of the client shows as its help; nothing if a package that it wants lacks."""
+    return subprocess.run([sys.executable, "-m", "xqs", command, "--help"], env=environment(),
+                          capture_output=True, text=True).stdout
 
 
 def absent_places(page: str) -> Iterator[str]:
@@ -65,6 +84,15 @@ class Pages(unittest.TestCase):
                   if "NAME" not in name and not any(TOP.glob(f"{name}*"))]
         self.assertEqual(absent, [])
 
+    def test_sentences_are_plain(self) -> None:
+        files = [*PAGES, *(it for folder in ("tools", "bench", "clients", "docs")
+                           for ending in ("py", "sh", "js", "html")
+                           for it in TOP.glob(f"{folder}/**/*.{ending}"))]
+        self.assertGreater(len(files), 300)
+        found = [f"{file.name}: {words}" for file in files if file.name not in QUOTING
+                 for words in CLUMSY.findall(file.read_text(encoding="utf-8"))]
+        self.assertEqual(found, [])
+
     def test_places_of_the_architecture_are_there(self) -> None:
         page = (TOP / "docs" / "ARCHITECTURE.md").read_text()
         self.assertGreater(len(PLACE.findall(page)), 40)
@@ -82,9 +110,17 @@ class Pages(unittest.TestCase):
         known = set(re.findall(r'^    "(\w+)": Entry', (
             TOP / "clients" / "python" / "src" / "xqs" / "cli.py").read_text(), re.MULTILINE))
         named = {it for file in PAGES if file.name not in PAST
-                 for it in re.findall(r"`(?:\./)?xqs ([a-z]+)\b", file.read_text())}
-        self.assertGreater(len(known), 10)
+                 for it, _ in calls(file.read_text())}
+        self.assertGreater(len(named), 10)
         self.assertEqual(named - known, set())
+
+    def test_options_of_commands_are_there(self) -> None:
+        named = {(command, option) for file in PAGES if file.name not in PAST
+                 for command, options in calls(file.read_text()) for option in options}
+        self.assertGreater(len(named), 20)
+        absent = [(command, option) for command, option in sorted(named)
+                  if (shown := client_help(command)) and not re.search(rf"{option}\b", shown)]
+        self.assertEqual(absent, [])
 
     @unittest.skipUnless(shutil.which("git") and (TOP / ".git").exists(), "it wants a clone")
     def test_commits_that_are_named_are_there(self) -> None:
@@ -97,6 +133,10 @@ class Pages(unittest.TestCase):
 
 
 class Reading(unittest.TestCase):
+    def test_calls(self) -> None:
+        page = "`xqs get a --xml` or\n    $ ./xqs load b --as c -- ./serve --file d\n    xqs get: no\n"
+        self.assertEqual([*calls(page)], [("get", ["--xml"]), ("load", ["--as"])])
+
     def test_anchors(self) -> None:
         self.assertEqual(anchors("# A b, `c`\n\n## Who can ask\n\n```\n# no\n```\n"),
                          {"a-b-c", "who-can-ask"})

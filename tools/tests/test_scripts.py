@@ -17,6 +17,9 @@ from tools.common.repository import TOP
 
 FOLDERS = ("user", "gate", "trials", "release")
 PAGE = TOP / "tools" / "README.md"
+PAGES = (*sorted(TOP.glob("*.md")), *sorted(TOP.glob("docs/*.md")),
+         *sorted(TOP.glob("clients/*/*.md")), PAGE)
+"""All pages of the repository."""
 LINE = re.compile(r"^\| `([\w.]+)` \|", re.MULTILINE)
 CALL = re.compile(r"\btools/run\s+(\w+)([^`\n]*)")
 OPTION = re.compile(r" (--[a-z-]+)")
@@ -76,9 +79,8 @@ class Scripts(unittest.TestCase):
                 self.assertIn("usage: ", ended.stdout)
 
     def test_options_that_pages_name_are_there(self) -> None:
-        texts = [it.read_text() for it in (*TOP.glob("*.md"), *TOP.glob("docs/*.md"))]
-        named = {(name, option) for text in texts for name, words in CALL.findall(text)
-                 for option in OPTION.findall(words)}
+        named = {(name, option) for page in PAGES for name, words in CALL.findall(page.read_text())
+                 if name != "NAME" for option in OPTION.findall(words)}
         self.assertGreater(len(named), 5)
         for name, option in sorted(named):
             with self.subTest(name):
