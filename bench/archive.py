@@ -2,17 +2,16 @@
 
     tools/run archive [--server WORDS] [--base WORDS] [--rows N] [--kept MB ..] [--peer]
 
-Documents are stored on a file until there are N rows, 12,000,000 where no number is named: shown
-are stores a second by the million rows. Then the file is opened by `--kept` 128 and 1024, and each
-time it is measured: how long the opening takes, with the most memory; the first reading of a row,
-of documents that the opening didn't keep; three passes over all rows; a count of all elements with
-a name, three times; a look-up in one document or another; and the memory that all this takes at
-most. An older program, where --base names it, opens the same file beside. BaseX over the same
-documents on a disk, with --peer, counts by name, finds one value and groups over all, three times
-each.
+Documents are stored in a file until there are N rows (12,000,000); the script shows the stores per
+second for each million rows. Then it opens the file with `--kept` 128 and 1024, and measures each
+time: the opening and its peak of memory; the first reading of a row, for documents that the opening
+didn't keep; three passes over all rows; a count of all elements with a name, three times; look-ups
+in single documents; and the peak of memory of all this. With --base an older program opens the same
+file in turn. With --peer BaseX, over the same documents on a disk, counts by name, finds one value
+and groups over all, three times each.
 
-Times are those of the processor, in milliseconds, but for the stores. The bounds that are wanted
-are shown: the status is 1 where one is missed, or where BaseX finds something else.
+Times are milliseconds of the processor, except for the stores. The bounds are shown: the status is
+1 if one is missed, or if BaseX finds something else.
     tools/run archive --rows 200000 --kept 1 --kept 16       a trial of a minute
 """
 

@@ -2,13 +2,13 @@
 
     tools/run cluster [--server WORDS] [--seconds N] [--runs N] [--elements N] [NAME ..]
 
-It wants rabbitmq-server and python3-aio-pika of Debian, and so Debian's python3. Measured in turn,
-medians of the runs: stores with 64 in flight, by one server on a file, by one node over three
-brokers, and by one of three nodes that all follow; the `order by` of bench/queries.py, asked by six
-clients of one node, of three nodes, and of one node of three servers; how long documents of
-100,000 rows take to restore, and a node to follow again that begins from a snapshot of them; and
-the longest pause of stores, one by one, while a node of two servers takes a snapshot of 25 MB. Each
-bound that is wanted is judged; where one doesn't hold, the exit status is 1.
+It needs rabbitmq-server and python3-aio-pika of Debian, and therefore Debian's python3. It measures
+in turn, as medians of the runs: stores with 64 in flight, by one server on a file, by one node over
+three brokers, and by one of three nodes that all follow; the `order by` of bench/queries.py, asked
+by six clients of one node, of three nodes, and of one node of three servers; how long it takes to
+restore documents of 100,000 rows, and until a node that begins from a snapshot of them follows
+again; and the longest pause of single stores while a node of two servers takes a snapshot of 25 MB.
+Each bound is checked; the exit status is 1 if one doesn't hold.
 """
 
 from __future__ import annotations

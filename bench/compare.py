@@ -3,10 +3,11 @@
     tools/run compare PROVED OTHER [ROUNDS]              21 repetitions where none are named
     tools/run compare ./serve './serve --unproved'
 
-PROVED and OTHER are commands of a server. Milliseconds of the document's store, of the first reply
-after it, and of each query the least of its repeated replies, which work beside changes least; and
-how many times as long the other takes. The status is 1 where a query takes more than three times as
-long, which is what `./serve --unproved` may take; the store, which runs once, is shown alone.
+PROVED and OTHER are commands of a server. The script shows the milliseconds of the document's
+store, of the first reply after it, and for each query the least of its repeated replies, which
+other work on the machine disturbs least; and how many times as long OTHER takes. The status is 1 if
+a query takes more than three times as long, the bound of `./serve --unproved`. The store, which
+runs once, is shown without a bound.
 """
 
 from __future__ import annotations

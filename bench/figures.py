@@ -28,7 +28,7 @@ def commit_of(top: pathlib.Path = TOP) -> str:
 
 
 def heading(commit: str, day: datetime.date, load: float) -> str:
-    """What says when, of what and where a benchmark ran."""
+    """The line above a table: day, commit, processor and load of the benchmark."""
     return f"{day}, commit {commit}, {processor()}, load {load:.0f}"
 
 

@@ -5,21 +5,21 @@
     tools/run forms [..] --growth                     joins over ten times as many elements
     tools/run forms [..] --memory                     the memory that joins take beside the document
 
-bench/forms.toml has the questions, each in several forms that give the same result. Without
-another word each form is asked over a document of 20,000 elements, and shown are the least
-milliseconds of the processor, and how many times as long as the fastest form of its question that
-is. A form that takes more than 3 times as long, and more than a millisecond, is a cliff.
+bench/forms.toml has the questions, each in several forms that give the same result. Without an
+option each form is asked over a document of 20,000 elements. The script shows its least
+milliseconds of the processor, and the ratio to the fastest form of the same question. A form that
+takes more than 3 times as long, and more than a millisecond, is a cliff.
 
-With --engines, over 100,000 elements where no number is named, each form is timed in turn with the
-engines that are installed (bench/engines.py). Wanted is at most the time of the lesser engine on
-nine of ten forms, and on each question by its fastest form.
+With --engines, over 100,000 elements or --elements, each form is timed in turn with the engines
+that are installed (bench/engines.py). The bound: at most the time of the fastest engine on nine of
+ten forms, and for the fastest form of each question.
 
-With --growth each form of a join is asked over a tenth of the elements and over all of them: at
-most 13 times as long is wanted. With --memory shown is by how much the most memory of a server
-grows while it answers a form of a join: at most twice as much as by the form of its question that
-takes least is wanted, or 4 MB.
+With --growth each form of a join is asked over a tenth of the elements and over all of them; it may
+take at most 13 times as long. With --memory the script shows by how much the peak of a server's
+memory grows while it answers a form of a join; this may be twice the growth of the question's most
+sparing form, or 4 MB.
 
-The status is 1 where there is a cliff, a bound is missed, or forms give different results.
+The status is 1 if there is a cliff, if a bound is missed, or if forms give different results.
 """
 
 from __future__ import annotations

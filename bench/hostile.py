@@ -3,7 +3,7 @@
     tools/run hostile [--server WORDS]
 
 Prints the milliseconds of each text at a quarter, a half and the whole of its size, and how many
-times as long each doubling takes. Ends with 1 where an answer is another one.
+times as long each doubling takes. The status is 1 if an answer is wrong.
 """
 import argparse
 import itertools

@@ -3,12 +3,11 @@
     tools/run limits [--server WORDS] [--seconds N] [--memory MB]
 
 Each query has a server of its own, on 8 MB of stack and with the allocator's settings of ./serve,
-which holds a library of two books under `b`. Printed are the milliseconds to the reply, the most
-memory that was resident, and the stack that was touched. Queries that have no limit but memory are
-asked again with so many MB of addresses (4,096): they have to be refused for memory, and the same
-server has to answer the next query. Last come queries that would take hours, which are killed after
-so many seconds (20), with the memory that they held by then. The status is 1 where an answer is
-another one.
+which holds a library of two books under `b`. The script prints the milliseconds to the reply, the
+peak of resident memory, and the stack that was touched. It asks queries that only memory limits
+again with an address space of --memory megabytes (4,096): each must be refused for memory, and the
+same server must answer the next query. Last come queries that would take hours. They are killed
+after --seconds (20), and their memory by then is printed. The status is 1 if an answer is wrong.
 """
 
 import argparse

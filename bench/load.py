@@ -11,11 +11,11 @@ pages of log. On a file the first of these edits waits until the engine has copi
 document's first store into the database: it is also shown by itself.
 
 The server, an older one where --base names it, BaseX where it is installed, which replaces the same
-by `db:replace`, and the inserts of C SQLite (python3's sqlite3) take N turns (3). Printed are
-medians, with the least times in brackets, by the clock and of the processor, which
-has no waiting in it, neither for other programs nor for the disk. The bounds that are wanted are
-shown by both. The status is 1 where one is missed of the processor's time or of the pages, or where
-documents come out different.
+by `db:replace`, and the inserts of C SQLite (python3's sqlite3) take N turns (3). The script prints
+medians, with the least times in brackets, by the clock and of the processor. The processor's time
+has no waiting in it, for other programs or for the disk. The bounds are shown by both. The status
+is 1 if a bound on the processor's time or on the pages is missed, or if documents come out
+different.
 """
 
 from __future__ import annotations

@@ -2,12 +2,12 @@
 
     tools/run many [--server WORDS] [--documents N] [--rows N]
 
-Documents of 99 nodes are stored one after another, 10,000 where no number is named. Shown are
-stores a second, the median over batches of 100, up to 100, 500, 1,000 .. documents; then the median
-time of a lookup in another document and of a count over the whole collection, each by itself and
-right after a store; the same beside a document of 100,000 elements; and how long files of up to
-1,000,000 rows take to open, with the most memory of the process. Each bound that is wanted is
-judged; where one doesn't hold, the exit status is 1.
+Documents of 99 nodes are stored one after another (10,000, or --documents). The script shows the
+stores per second, the median over batches of 100, up to 100, 500, 1,000 .. documents; then the
+median time of a lookup in another document and of a count over the whole collection, each by itself
+and right after a store; the same beside a document of 100,000 elements; and how long files of up to
+1,000,000 rows take to open, with the peak of the process's memory. Each bound is checked; the exit
+status is 1 if one doesn't hold.
 """
 from __future__ import annotations
 

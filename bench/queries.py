@@ -102,7 +102,7 @@ QUERIES = [
 MAKING = "making the document"
 LARGE = 100_000
 HALVED = 12
-"""Wanted is that all queries take at most what the lesser of Saxon and BaseX takes, and so many of
+"""Wanted: all queries take at most what the lesser of Saxon and BaseX takes, and so many of
 them at most half of that."""
 INDEXED, MOST_INDEXED = ("descendant by name", "chain of children", "attribute point"), 1.5
 """The queries that BaseX's database answers from its indexes, and the most times as long as it that

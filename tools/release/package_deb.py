@@ -129,7 +129,7 @@ def server_script(is_unproved: bool) -> str:
     found = re.search(r"^set_allocator\(\) \{\n.*?^\}\n", text, re.DOTALL | re.MULTILINE)
     if not found:
         raise NotPackaged("./serve has no set_allocator")
-    warning = ('echo "xq_server: nothing of this program is proved; it checks itself" >&2\n'
+    warning = ('echo "xq_server: this program is not proved; it checks itself as it runs" >&2\n'
                if is_unproved else "")
     return ("#!/usr/bin/env bash\n# Request frames on standard input, replies on standard output: "
             f'see xq_server(1).\nset -eu\n{found[0]}{warning}set_allocator\nexec /{PROGRAM} "$@"\n')
@@ -215,7 +215,7 @@ def completion() -> str:
 
 def control(version: str, author: str, kilobytes: int, is_unproved: bool) -> str:
     """The description of the package."""
-    note = (" Nothing of this program is proved: it checks itself as it runs.\n" if is_unproved
+    note = (" This program is not proved: it checks itself as it runs.\n" if is_unproved
             else " The server's replies are proved to be the meaning of their requests.\n")
     return (
         f"Package: {NAME}\nVersion: {version}\nArchitecture: amd64\nSection: database\n"

@@ -7,10 +7,10 @@
 # With --deb a package for Debian is made beside it (dpkg-deb, help2man, python3-aiohttp).
 #
 # The archive goes to out/release, with its checksum. It has ./serve and ./demo, the program, README
-# and docs, the clients, a licence where there is one, the text of what was proved, and a checksum
-# of each file. It is unpacked elsewhere and tried on the program's stored run before it is kept.
-# Refused are a work tree that differs from the last commit, sources that ./serve has not proved and
-# built, and a log whose last line is not that of a whole gate that passed.
+# and docs, the clients, a licence if there is one, a text that says what was proved, and a checksum
+# of each file. Before it is kept, it is unpacked elsewhere and has to answer the stored run. This
+# script refuses a work tree that differs from the last commit, sources that ./serve has not proved
+# and built, and a log whose last line is not that of a whole gate that passed.
 set -euo pipefail
 top=$(cd "$(dirname "${BASH_SOURCE[0]}")/../.." && pwd)
 cd "$top"
@@ -51,11 +51,11 @@ END
 
 unproved_text() {
     cat <<END
-NOTHING IN THIS ARCHIVE IS PROVED. bin/xq_server_unproved was built from this commit with
+THE PROGRAM IN THIS ARCHIVE IS NOT PROVED. bin/xq_server_unproved was built from this commit with
 
     $kit
 
-before any proof. It checks itself as it runs. README.md speaks of the proved program.
+without a proof. It checks itself as it runs. README.md describes the proved program.
 END
 }
 

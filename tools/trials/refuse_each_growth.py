@@ -4,17 +4,17 @@
         [--table NAME ..]
 
 One server gets the worked rows in order, a frame that is no request, three requests that tell the
-documents, and a length over the limit; with --table a server gets each run of the table's groups in
-their place, each query twice, so that what was refused is asked again at once. Of all its
-allocations one is refused: in memory, the process forks at each, and the child's is refused
-(refuse.c); with --file there is a run over a new file for each, or over a copy of the one
-that the table names. Such a run has to end by saying that there was no room, after whole replies;
-or the frame that met the refusal has status 2, each one before it its own reply, and each one after
-it the reply of a server that never got that frame; where the database has shut, the later ones may
-want the store. A file is then opened again, and has to hold the documents of those replies; those
-before the refused frame or after it, where the database has shut.
+documents, and a length over the limit. With --table a server gets instead each run of the table's
+groups, each query twice, so that what was refused is asked again at once. In each run one of its
+allocations is refused. In memory the process forks at each allocation, and the child's is refused
+(refuse.c). With --file each allocation has a run over a new file, or over a copy of the file that
+the table names. Such a run may end by saying, after whole replies, that there was no room.
+Otherwise the frame that met the refusal must have status 2, each one before it its own reply, and
+each one after it the reply of a server that never got that frame, or `store` if the database has
+shut. A file is then opened again. It must hold the documents of those replies; if the database has
+shut, those before the refused frame or after it.
 
-Needs a C compiler, for the allocator that refuses. The status is 1 where there is a fault.
+Needs a C compiler, for the allocator that refuses. The status is 1 if there is a fault.
 """
 
 import argparse

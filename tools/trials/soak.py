@@ -3,12 +3,11 @@
     tools/run soak [--seconds N] [--seed N] [--program PATH]      an hour where no length is named
 
 The requests are drawn by the seed: stores, copies, drops, queries and refusals, some sent ahead.
-What each has to be answered says a model that is kept beside (soak_model.py). A server in memory
-runs on up to its limit of frames; one on a file is killed again and again, at any moment, or ends
-in order, and the next has to find the documents as they were before a frame under way or after it.
-A line a minute has the counts and the resident memory. The status is 1 where a reply or a
-document is another one, or where memory grew: the most of the second half of the time, in either
-server, is over a quarter and over 32 MB more than that of the first.
+A model (soak_model.py) gives the expected reply of each. A server in memory runs up to its limit of
+frames. One on a file is killed again and again, at any moment, or ends in order; the next one must
+find the documents as they were before a frame under way or after it. A line a minute has the counts
+and the resident memory. The status is 1 if a reply or a document is wrong, or if memory grew: if a
+server's peak in the second half of the time exceeds that of the first by over a quarter and 32 MB.
 """
 
 import argparse

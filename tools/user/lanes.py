@@ -50,7 +50,7 @@ def chains(names: Sequence[str], crates: Mapping[str, Sequence[str]],
 
 
 def program_chains(minutes: Mapping[str, float]) -> dict[str, float]:
-    """The same for the program of this repository and all below it."""
+    """The minutes of the chains of crates, for this repository's program and all below it."""
     crates = repository.libraries(repository.TOP / "crates.txt")
     return chains(repository.all_below([repository.PROGRAM], crates), crates, minutes)
 
