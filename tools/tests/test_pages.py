@@ -134,7 +134,8 @@ class Pages(unittest.TestCase):
 
 class Reading(unittest.TestCase):
     def test_calls(self) -> None:
-        page = "`xqs get a --xml` or\n    $ ./xqs load b --as c -- ./serve --file d\n    xqs get: no\n"
+        page = "`xqs get a --xml` or\n    $ ./xqs load b --as c -- ./serve --file d\n"
+        page += "    xqs get: no\n"
         self.assertEqual([*calls(page)], [("get", ["--xml"]), ("load", ["--as"])])
 
     def test_anchors(self) -> None:
