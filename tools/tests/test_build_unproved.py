@@ -1,6 +1,6 @@
 """Tests of build_unproved.py.
 
-Those that build a program need the kit, and take half a minute.
+Those that build a program need the kit, and take a minute or two.
 """
 
 import pathlib
