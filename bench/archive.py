@@ -190,7 +190,7 @@ def compared(server: Opened, peers: Sequence[Driven]) -> dict[str, dict[str, flo
 
 def bounds(documents: int, rates: Sequence[float],
            of: dict[str, dict[int, Figures]]) -> Iterator[Bound]:
-    """What is wanted of the stores and of the figures, as far as they are there."""
+    """The bounds on the stores and on those figures that were measured."""
     if len(rates) > 1:
         yield Bound("stores a second, the most by the least", max(rates) / min(rates), None, 1.2)
     for kept, ours in of[OURS].items():
@@ -210,7 +210,7 @@ def bounds(documents: int, rates: Sequence[float],
 
 
 def beside(times: dict[str, dict[str, float]]) -> Iterator[Bound]:
-    """What is wanted beside BaseX."""
+    """The bounds beside BaseX."""
     for what, of in times.items():
         for name, spent in of.items():
             if name != OURS:

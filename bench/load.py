@@ -242,7 +242,7 @@ def edits(servers: Mapping[str, Command], others: Sequence[Driven], rounds: int)
 
 
 def bounds(of: Mapping[str, Mapping[str, Times]]) -> Iterator[Bound]:
-    """What is wanted of the times, as far as they are there."""
+    """The bounds on those times that were measured."""
     for shape, most in (("records: stored", 0.58), ("records: read", 0.5)):
         if BASE in of.get(shape, {}):
             yield ratio(f"{shape}, to the {BASE}", of[shape][OURS], of[shape][BASE], most)

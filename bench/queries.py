@@ -12,7 +12,7 @@ BaseX, as far as they are installed (bench/engines.py), and of an older program 
 --base names it: the median of 15 runs and the least. They take three turns of five runs, after five
 of each query to warm up; each turn is of new servers. The last query makes the document. The same
 follows by the processor's time of each, which changes least where the machine has much else to do.
-All results are compared with one another, and the bounds of what is wanted beside the others are
+All results are compared with one another, and the bounds beside the others are
 shown by both. The status is 1 where a result differs, or a bound is missed of the processor's time.
 """
 
