@@ -253,8 +253,8 @@ fn with_clause(
     }
 }
 
-/// The clauses that are left, of which the last comes next: a `for` over what a predicate keeps in
-/// place of a `for` and a `where` that are one.
+/// The clauses that are left, the last first: a `for` over what a predicate keeps in place of a
+/// `for` and a `where` that are one.
 pub fn narrowed(
     alloc: Global,
     known: &[Held],

@@ -52,7 +52,7 @@ fn is_passed(known: &[Held], clause: &PlanClause) -> bool
     }
 }
 
-/// The clauses that are left, of which the last comes next, after others that come before them.
+/// The clauses that are left, the last first, after others that come before them.
 fn put_back(left: Vec<PlanClause>, others: Vec<PlanClause>) -> Result<Vec<PlanClause>, AllocError>
     ensures { IfOk result (λ after. after.items ≡ left.items ++ reverse others.items) }
 {
@@ -123,8 +123,8 @@ fn may_pass(known: &[Held], passed: &[PlanClause], next: &PlanClause) -> bool
     passed.len() < MOST && is_passed(known, next)
 }
 
-/// The clauses that are left, of which the last comes next: first an equality that may come before
-/// those that stand before it.
+/// The clauses that are left, the last first: first an equality that may come before those that
+/// stand before it.
 fn risen(
     alloc: Global,
     known: &[Held],
