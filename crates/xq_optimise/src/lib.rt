@@ -7,6 +7,7 @@ ghost use Rattle.xq_optimise.specs.Same.{GivesSame};
 ghost use Rattle.xq_optimise.specs.Scans.{KeepsScans};
 
 mod filters;
+mod firsts;
 mod group_joins;
 mod group_returns;
 mod held;

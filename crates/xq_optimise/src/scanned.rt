@@ -1,12 +1,14 @@
 //! Steps whose predicates compare texts: the scan from all nodes at once, and then the predicates
 //! on all that it finds, which lets the values that are kept serve them (XQuery 3.1, sections 3.3.2
 //! and 3.3.3).
-ghost use Rattle.std.specs.Prelude.{◌≡◌, ◌++◌, ◌∷◌, [], true, IfOk};
+ghost use Rattle.std.specs.Prelude.{◌≡◌, ◌++◌, ◌∷◌, [], List, true, IfOk};
 ghost use Rattle.std.specs.List.{AllByRecursion};
 ghost use Rattle.xq_meaning.specs.declared.plans.Plan.TheVariants as plan_of;
 ghost use Rattle.xq_meaning.specs.declared.plans.PlanStep.TheVariants as step_of;
 ghost use Rattle.xq_optimise.specs.Same.{GivesSame};
 ghost use Rattle.xq_optimise.specs.Sure.{SurelyKeeps};
+ghost use Rattle.xq_optimise.specs.declared.held.Held.{Held as Known};
+ghost use Rattle.xq_optimise.specs.private.Filters.{KeepsAlike};
 ghost use Rattle.xq_optimise.specs.private.Parts.{MovesOn};
 
 use crate::held::Held;
@@ -56,15 +58,30 @@ struct Taken {
 }
 
 /// Whether the predicates of a step are judged over all that the step finds: one of them compares
-/// texts, which the values that are kept may serve. After `//` evaluation looks for what passes one
-/// predicate at once, so that such a step stays.
-fn is_judged_at_once(known: &[Held], before: &[PlanStep], predicates: &[Plan]) -> bool
+/// texts, which the values that are kept may serve.
+fn is_judged_at_once(known: &[Held], predicates: &[Plan]) -> bool
     ensures { result ≡ true → AllByRecursion (SurelyKeeps known.now) predicates.now }
 {
-    if !have_comparison(predicates) || (predicates.len() == 1 && ends_in_double_slash(before)) {
-        return false;
+    have_comparison(predicates) && are_item_tests(known, predicates)
+}
+
+/// The predicates, those that compare before the others, where all ask the node in focus alone.
+fn comparisons_first(alloc: Global, predicates: Items<Plan>) -> Result<Items<Plan>, AllocError>
+    ensures { IfOk result (λ after. (known : List Known)
+        → AllByRecursion (SurelyKeeps known) predicates → KeepsAlike known predicates after) }
+{
+    let mut left = reversed(alloc, predicates)?;
+    let mut comparisons = Items::new(alloc);
+    let mut others = Items::new(alloc);
+    while let Some(next) = left.pop() {
+        if as_comparison(&next).is_some() {
+            comparisons.push(next)?;
+        } else {
+            others.push(next)?;
+        }
     }
-    are_item_tests(known, predicates)
+    comparisons.append(others)?;
+    Ok(comparisons)
 }
 
 /// The path with a scan more, of whose nodes the predicates keep some.
@@ -87,6 +104,76 @@ fn with_tests(
     })
 }
 
+/// The path with a step that keeps its first predicate, and the others over all that it finds.
+fn with_first(
+    alloc: Global,
+    path: Taken,
+    axis: Axis,
+    test: Test,
+    first: Plan,
+    others: Items<Plan>,
+) -> Result<Taken, AllocError>
+    ensures { IfOk result (λ found. (found.steps ≡ []) × (found.start ≡ plan_of.Filter (plan_of.Path
+        path.start (path.steps ++ step_of.Each (plan_of.Step axis test (first ∷ [])) ∷ [])) others)) }
+{
+    let mut predicates = Items::new(alloc);
+    predicates.push(first)?;
+    let mut steps = path.steps;
+    steps.push(PlanStep::Each(Plan::Step(axis, test, predicates)))?;
+    let found = Plan::Path(Boxed::new(alloc, path.start)?, steps);
+    Ok(Taken {
+        start: Plan::Filter(Boxed::new(alloc, found)?, others),
+        steps: Items::new(alloc),
+    })
+}
+
+/// The path with a step after `//`, where evaluation looks for what passes one predicate at once.
+fn with_look_up(
+    alloc: Global,
+    known: &[Held],
+    path: Taken,
+    axis: Axis,
+    test: Test,
+    predicates: Items<Plan>,
+) -> Result<Taken, AllocError>
+    requires { AllByRecursion (SurelyKeeps known.now) predicates }
+    ensures { IfOk result (λ found. MovesOn known.now (step_of.Each (plan_of.Step axis test predicates))
+        path.start path.steps found.start found.steps) }
+{
+    if predicates.len() < 2 {
+        return pushed(path, PlanStep::Each(Plan::Step(axis, test, predicates)));
+    }
+    let mut left = reversed(alloc, predicates)?;
+    match left.pop() {
+        Some(first) => {
+            left.reverse();
+            with_first(alloc, path, axis, test, first, Items::from_vec(left))
+        }
+        None => pushed(path, PlanStep::Each(Plan::Step(axis, test, Items::new(alloc)))),
+    }
+}
+
+/// The path with a step whose predicates ask each node alone, those that compare first.
+fn with_judged(
+    alloc: Global,
+    known: &[Held],
+    path: Taken,
+    axis: Axis,
+    test: Test,
+    predicates: Items<Plan>,
+) -> Result<Taken, AllocError>
+    requires { AllByRecursion (SurelyKeeps known.now) predicates }
+    ensures { IfOk result (λ found. MovesOn known.now (step_of.Each (plan_of.Step axis test predicates))
+        path.start path.steps found.start found.steps) }
+{
+    let ordered = comparisons_first(alloc, predicates)?;
+    if ends_in_double_slash(path.steps.as_slice()) {
+        with_look_up(alloc, known, path, axis, test, ordered)
+    } else {
+        with_tests(alloc, path, axis, test, ordered)
+    }
+}
+
 /// The path with a part for each of its nodes.
 fn with_part(alloc: Global, known: &[Held], path: Taken, part: Plan) -> Result<Taken, AllocError>
     ensures { IfOk result (λ found.
@@ -94,8 +181,8 @@ fn with_part(alloc: Global, known: &[Held], path: Taken, part: Plan) -> Result<T
 {
     match part {
         Plan::Step(axis, test, predicates) => {
-            if is_judged_at_once(known, path.steps.as_slice(), predicates.as_slice()) {
-                return with_tests(alloc, path, axis, test, predicates);
+            if is_judged_at_once(known, predicates.as_slice()) {
+                return with_judged(alloc, known, path, axis, test, predicates);
             }
             pushed(path, PlanStep::Each(Plan::Step(axis, test, predicates)))
         }
