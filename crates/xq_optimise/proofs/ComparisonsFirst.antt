@@ -1,12 +1,11 @@
 -- Predicates that ask the node alone, in another order.
-use Rattle.std.proofs.Common.{◌≡◌, List, [], ◌∷◌, ◌++◌, map, reverse, filter, Bool, true, false, Ok, refl, sym, ap, ◌∙◌, subst}
-use Rattle.std.specs.Prelude.{Option, ◌&&◌}
+use Rattle.std.proofs.Common.{◌≡◌, List, [], ◌∷◌, ◌++◌, map, reverse, Bool, true, false, Ok, refl, sym, ap, ◌∙◌, subst}
+use Rattle.std.specs.Prelude.{◌&&◌}
 use Rattle.std.specs.List.{AllByRecursion}
 use Rattle.std.proofs.lemmas.List.{append_assoc, append-nil, map-append, reverse-append, reverse-reverse}
 use Rattle.xq_atoms.specs.Text.{Text}
 use Rattle.xq_trees.specs.Tree.{Tree}
 use Rattle.xq_meaning.specs.declared.plans.Plan.{Plan}
-use Rattle.xq_meaning.specs.Functions.{Focus}
 use Rattle.xq_meaning.specs.Items.{Place, Node}
 use Rattle.xq_meaning.specs.PlanMeaning.{Slots, Meaning, plan_mean}
 use Rattle.xq_optimise.specs.declared.held.Held.{Held}
@@ -59,14 +58,26 @@ module _ (slots : Slots) (addresses : List Text) (f : List Tree) where
   none_parts = ((λ p. true), (λ p. true), (λ p. true), (λ p. refl), (λ p. refl), (λ p. refl), λ p. refl)
 
   one_first : (taken xs ys : List Plan) (q : Plan) (l : Place → Bool) → AllTold slots addresses f (plan_mean q ∷ []) l → Parts taken xs ys → Parts (taken ++ q ∷ []) (xs ++ q ∷ []) ys
-  one_first taken xs ys q l told (k, first, second, a, b, c, both) =
-      ((λ p. k p && l p), (λ p. first p && l p), second, with_one taken q k l a told, with_one xs q first l b told, c,
-      λ p. ap (λ t. t && l p) (both p) ∙ and_third (first p) (second p) (l p))
+  one_first taken xs ys q l told (k, first, second, a, b, c, both) = (
+    (λ p. k p && l p),
+    (λ p. first p && l p),
+    second,
+    with_one taken q k l a told,
+    with_one xs q first l b told,
+    c,
+    λ p. ap (λ t. t && l p) (both p) ∙ and_third (first p) (second p) (l p),
+  )
 
   one_second : (taken xs ys : List Plan) (q : Plan) (l : Place → Bool) → AllTold slots addresses f (plan_mean q ∷ []) l → Parts taken xs ys → Parts (taken ++ q ∷ []) xs (ys ++ q ∷ [])
-  one_second taken xs ys q l told (k, first, second, a, b, c, both) =
-      ((λ p. k p && l p), first, (λ p. second p && l p), with_one taken q k l a told, b, with_one ys q second l c told,
-      λ p. ap (λ t. t && l p) (both p) ∙ and_assoc (first p) (second p) (l p))
+  one_second taken xs ys q l told (k, first, second, a, b, c, both) = (
+    (λ p. k p && l p),
+    first,
+    (λ p. second p && l p),
+    with_one taken q k l a told,
+    b,
+    with_one ys q second l c told,
+    λ p. ap (λ t. t && l p) (both p) ∙ and_assoc (first p) (second p) (l p),
+  )
 
 -- # Lists
 
@@ -155,3 +166,6 @@ all_split all left xs ys after none is known h = (
         all_kept slots addresses f focus (map plan_mean (xs ++ ys)) (λ p. first p && second p) joined places
         ∙ ap (λ ps. (Ok (map Node ps), f)) (sym (filter_like k (λ p. first p && second p) parts.6 places))
         ∙ sym (all_kept slots addresses f focus (map plan_mean all) k old places)
+
+pub same_then : (known : List Held) (ps qs rs : List Plan) → SamePredicates known ps qs → SamePredicates known qs rs → SamePredicates known ps rs
+same_then known ps qs rs h k slots focus addresses fits places f = k slots focus addresses fits places f ∙ h slots focus addresses fits places f

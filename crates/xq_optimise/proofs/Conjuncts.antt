@@ -162,7 +162,6 @@ module _ (known : List Held) (slots : Slots) (focus : Option Focus) (addresses :
   refused_after m ms code (t ∷ ts) (true ∷ bs) h (inr (b, e, k)) =
       inr (b, true_first m ms (at_tuple frame t) f h.0 ∙ e, refused_after m ms code ts bs h.1 k)
 
-
   conjunction_refused : (ps : List Plan) (code : Code) (ts : List (Tuple Item)) → Refuses (Forms.and (map plan_mean ps)) code ts →
       plan_clause_mean (clause.Where (plan.And ps)) frame ts f ≡ (Err code, f)
   conjunction_refused ps code ts h =
@@ -276,10 +275,12 @@ in_order left tests = reverse-append left (reverse tests) ∙ ap (λ l. l ++ rev
 -- they are put at the end
 pub conjuncts_add : (known : List Held) (ps left : List Plan) (before after : List PlanClause) → reverse left ≡ [] →
     TakesTests known (reverse ps) left before after → AddsTests known (plan.And ps) before after
-conjuncts_add known ps left before after none (tests, is, all, added) =
-    (map clause.Where tests ++ [], added ∙ ap (λ l. before ++ l) (sym (append-nil (map clause.Where tests))),
-    λ start. subst (λ l. SameMany start known (clause.Where (plan.And l)) (map clause.Where tests ++ []) known) (sym whole)
-    (conjuncts_follow start known tests [] [] (all_tell known tests all) tt (λ slots focus addresses f ts. nothing_left known slots focus addresses f ts)))
+conjuncts_add known ps left before after none (tests, is, all, added) = (
+  map clause.Where tests ++ [],
+  added ∙ ap (λ l. before ++ l) (sym (append-nil (map clause.Where tests))),
+  λ start. subst (λ l. SameMany start known (clause.Where (plan.And l)) (map clause.Where tests ++ []) known) (sym whole)
+      (conjuncts_follow start known tests [] [] (all_tell known tests all) tt (λ slots focus addresses f ts. nothing_left known slots focus addresses f ts)),
+)
   where
     whole : ps ≡ tests ++ []
     whole = sym (reverse-reverse ps) ∙ ap reverse is ∙ in_order left tests ∙ ap (λ l. tests ++ l) none
@@ -288,13 +289,14 @@ conjuncts_add known ps left before after none (tests, is, all, added) =
 pub others_add : (outer : ℕ) (known : List Held) (ps left others : List Plan) (before between after : List PlanClause) →
     AllByRecursion (IsOutside outer) ps → TakesTests known (reverse ps) left before between → others ≡ reverse left →
     after ≡ between ++ clause.Where (plan.And others) ∷ [] → AddsTests known (plan.And ps) before after
-others_add outer known ps left others before between after outside (tests, is, all, added) turned more =
-    (map clause.Where tests ++ clause.Where (plan.And others) ∷ [],
-    more ∙ ap (λ l. l ++ clause.Where (plan.And others) ∷ []) added ∙ append_assoc before (map clause.Where tests) (clause.Where (plan.And others) ∷ []),
-    λ start. subst (λ l. SameMany start known (clause.Where (plan.And l)) (map clause.Where tests ++ clause.Where (plan.And others) ∷ []) known) (sym whole)
-    (conjuncts_follow start known tests others (clause.Where (plan.And others) ∷ []) (all_tell known tests all)
-    (others_quiet outer tests others (subst (AllByRecursion (IsOutside outer)) whole outside))
-    (λ slots focus addresses f ts. alone (plan_clause_mean (clause.Where (plan.And others)) (frame_of slots focus addresses) ts f))))
+others_add outer known ps left others before between after outside (tests, is, all, added) turned more = (
+  map clause.Where tests ++ clause.Where (plan.And others) ∷ [],
+  more ∙ ap (λ l. l ++ clause.Where (plan.And others) ∷ []) added ∙ append_assoc before (map clause.Where tests) (clause.Where (plan.And others) ∷ []),
+  λ start. subst (λ l. SameMany start known (clause.Where (plan.And l)) (map clause.Where tests ++ clause.Where (plan.And others) ∷ []) known) (sym whole)
+      (conjuncts_follow start known tests others (clause.Where (plan.And others) ∷ []) (all_tell known tests all)
+      (others_quiet outer tests others (subst (AllByRecursion (IsOutside outer)) whole outside))
+      (λ slots focus addresses f ts. alone (plan_clause_mean (clause.Where (plan.And others)) (frame_of slots focus addresses) ts f))),
+)
   where
     whole : ps ≡ tests ++ others
     whole = sym (reverse-reverse ps) ∙ ap reverse is ∙ in_order left tests ∙ ap (λ l. tests ++ l) (sym turned)
@@ -311,13 +313,14 @@ none_taken known left before = ([], sym (append-nil left), tt, sym (append-nil b
 pub next_taken : (known : List Held) (old left rest : List Plan) (before done after : List PlanClause) (p : Plan) →
     TakesTests known old left before done → left ≡ rest ++ p ∷ [] → IsTest known p → after ≡ done ++ clause.Where p ∷ [] →
     TakesTests known old rest before after
-next_taken known old left rest before done after p (tests, is, all, added) cut test more =
-    (tests ++ p ∷ [],
-    is ∙ ap (λ l. l ++ reverse tests) cut ∙ append_assoc rest (p ∷ []) (reverse tests)
-        ∙ ap (λ l. rest ++ l) (sym (reverse-append tests (p ∷ []))),
-    all-append tests (p ∷ []) all (test, tt),
-    more ∙ ap (λ l. l ++ clause.Where p ∷ []) added ∙ append_assoc before (map clause.Where tests) (clause.Where p ∷ [])
-        ∙ ap (λ l. before ++ l) (sym (map-append clause.Where tests (p ∷ []))))
+next_taken known old left rest before done after p (tests, is, all, added) cut test more = (
+  tests ++ p ∷ [],
+  is ∙ ap (λ l. l ++ reverse tests) cut ∙ append_assoc rest (p ∷ []) (reverse tests)
+      ∙ ap (λ l. rest ++ l) (sym (reverse-append tests (p ∷ []))),
+  all-append tests (p ∷ []) all (test, tt),
+  more ∙ ap (λ l. l ++ clause.Where p ∷ []) added ∙ append_assoc before (map clause.Where tests) (clause.Where p ∷ [])
+      ∙ ap (λ l. before ++ l) (sym (map-append clause.Where tests (p ∷ []))),
+)
   where
     all-append : (xs ys : List Plan) → AllByRecursion (IsTest known) xs → AllByRecursion (IsTest known) ys →
         AllByRecursion (IsTest known) (xs ++ ys)

@@ -1,16 +1,14 @@
 -- Items up to a position: a `for` over what a predicate keeps, in place of a `for` and a `where`.
 use Rattle.std.proofs.Common.{◌≡◌, ℕ, suc, ◌+◌, List, [], ◌∷◌, ◌++◌, map, reverse, length, Bool, true, false, Ok, Err, refl, sym, ap, ◌∙◌, subst, ◌⊎◌, inl, inr, arith}
 use Rattle.std.specs.Prelude.{ℤ, pos, Option, Some}
-use Rattle.std.specs.List.{AllByRecursion, enumerate_from, flat_map, zip}
+use Rattle.std.specs.List.{enumerate_from, zip}
 use Rattle.std.proofs.lemmas.List.Concat.{flat_map-cons}
 use Rattle.std.proofs.lemmas.List.{append_assoc, append-nil, length-append, map-append, reverse-append}
 use Rattle.xq_atoms.specs.Atom.{Integer}
 use Rattle.xq_atoms.specs.Text.{Text}
-use Rattle.xq_atoms.specs.declared.refusals.Code.{Code}
 use Rattle.xq_expressions.specs.declared.operators.AllowingEmpty.TheVariants as allowing
 use Rattle.xq_expressions.specs.declared.operators.ComparisonOperator.TheVariants as comparing
 use Rattle.xq_expressions.specs.declared.operators.Relation.{Relation}
-use Rattle.xq_expressions.specs.declared.operators.Relation.TheVariants as relation
 use Rattle.xq_trees.specs.Tree.{Tree}
 use Rattle.xq_trees.specs.Tuples.{Tuple, expanded, item_values, value_at, with_items}
 use Rattle.xq_meaning.specs.declared.operators.Operator.{Operator}
@@ -20,16 +18,16 @@ use Rattle.xq_meaning.specs.declared.plans.Plan.TheVariants as plan
 use Rattle.xq_meaning.specs.declared.plans.PlanClause.{PlanClause}
 use Rattle.xq_meaning.specs.declared.plans.PlanClause.TheVariants as clause
 use Rattle.xq_meaning.specs.Arguments.{atomic, boolean, effective, whole}
-use Rattle.xq_meaning.specs.Doing.{Doing, Outcome, ◌>>=◌, collected, for_each, give, go_on, in_turn, judged, more, on_trees, one_more}
+use Rattle.xq_meaning.specs.Doing.{Doing, Outcome, ◌>>=◌, for_each, give, go_on, in_turn, judged, more, on_trees, one_more}
 use Rattle.xq_meaning.specs.Forms
 use Rattle.xq_meaning.specs.Functions.{Focus}
 use Rattle.xq_meaning.specs.Items.{Item, Atom}
 use Rattle.xq_meaning.specs.Operators.{keeps, operated}
-use Rattle.xq_meaning.specs.PlanMeaning.{Slots, Frame, Meaning, at_tuple, next_clause, plan_mean, plan_clause_mean}
+use Rattle.xq_meaning.specs.PlanMeaning.{Slots, Frame, at_tuple, next_clause, plan_mean, plan_clause_mean}
 use Rattle.xq_meaning.specs.Same.{frame_of}
 use Rattle.xq_meaning.specs.Steps.{focuses_from}
 use Rattle.xq_meaning.proofs.PlanEquations as plan_eq
-use Rattle.xq_meaning.proofs.Turns.{begun_then, go_on_give, in_turn-append}
+use Rattle.xq_meaning.proofs.Turns.{in_turn-append}
 use Rattle.xq_optimise.specs.declared.held.Held.{Held}
 use Rattle.xq_optimise.specs.Known.{Fits}
 use Rattle.xq_optimise.specs.private.Firsts.{ComparesSlot, IsBound, KeepsFirsts}

@@ -6,6 +6,7 @@ ghost use Rattle.xq_atoms.specs.declared.refusals.Want.TheVariants.{Memory};
 ghost use Rattle.xq_optimise.specs.Same.{GivesSame};
 ghost use Rattle.xq_optimise.specs.Scans.{KeepsScans};
 
+mod comparisons;
 mod filters;
 mod firsts;
 mod group_joins;

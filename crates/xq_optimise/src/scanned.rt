@@ -1,46 +1,21 @@
 //! Steps whose predicates compare texts: the scan from all nodes at once, and then the predicates
 //! on all that it finds, which lets the values that are kept serve them (XQuery 3.1, sections 3.3.2
 //! and 3.3.3).
-ghost use Rattle.std.specs.Prelude.{◌≡◌, ◌++◌, ◌∷◌, [], List, true, IfOk};
+ghost use Rattle.std.specs.Prelude.{◌≡◌, ◌++◌, ◌∷◌, [], true, IfOk};
 ghost use Rattle.std.specs.List.{AllByRecursion};
 ghost use Rattle.xq_meaning.specs.declared.plans.Plan.TheVariants as plan_of;
 ghost use Rattle.xq_meaning.specs.declared.plans.PlanStep.TheVariants as step_of;
 ghost use Rattle.xq_optimise.specs.Same.{GivesSame};
 ghost use Rattle.xq_optimise.specs.Sure.{SurelyKeeps};
-ghost use Rattle.xq_optimise.specs.declared.held.Held.{Held as Known};
-ghost use Rattle.xq_optimise.specs.private.Filters.{KeepsAlike};
 ghost use Rattle.xq_optimise.specs.private.Parts.{MovesOn};
 
+use crate::comparisons::{are_item_tests, comparisons_first, have_comparison};
 use crate::held::Held;
 use crate::lists::reversed;
-use crate::predicates::is_item_test;
-use crate::sure::as_comparison;
 use sqlite_items::{Boxed, Items};
 use std::alloc::{AllocError, Global};
 use xq_meaning::{Plan, PlanStep, Test};
 use xq_trees::Axis;
-
-/// Whether each predicate asks the node in focus alone, and can't be refused.
-fn are_item_tests(known: &[Held], predicates: &[Plan]) -> bool
-    ensures { result ≡ true → AllByRecursion (SurelyKeeps known.now) predicates.now }
-{
-    for predicate in predicates {
-        if !is_item_test(known, predicate) {
-            return false;
-        }
-    }
-    true
-}
-
-/// Whether one of the predicates compares.
-fn have_comparison(predicates: &[Plan]) -> bool {
-    for predicate in predicates {
-        if as_comparison(predicate).is_some() {
-            return true;
-        }
-    }
-    false
-}
 
 /// Whether the last of the steps is `descendant-or-self::node()`, for which `//` stands.
 fn ends_in_double_slash(steps: &[PlanStep]) -> bool {
@@ -63,25 +38,6 @@ fn is_judged_at_once(known: &[Held], predicates: &[Plan]) -> bool
     ensures { result ≡ true → AllByRecursion (SurelyKeeps known.now) predicates.now }
 {
     have_comparison(predicates) && are_item_tests(known, predicates)
-}
-
-/// The predicates, those that compare before the others, where all ask the node in focus alone.
-fn comparisons_first(alloc: Global, predicates: Items<Plan>) -> Result<Items<Plan>, AllocError>
-    ensures { IfOk result (λ after. (known : List Known)
-        → AllByRecursion (SurelyKeeps known) predicates → KeepsAlike known predicates after) }
-{
-    let mut left = reversed(alloc, predicates)?;
-    let mut comparisons = Items::new(alloc);
-    let mut others = Items::new(alloc);
-    while let Some(next) = left.pop() {
-        if as_comparison(&next).is_some() {
-            comparisons.push(next)?;
-        } else {
-            others.push(next)?;
-        }
-    }
-    comparisons.append(others)?;
-    Ok(comparisons)
 }
 
 /// The path with a scan more, of whose nodes the predicates keep some.
@@ -149,7 +105,10 @@ fn with_look_up(
             left.reverse();
             with_first(alloc, path, axis, test, first, Items::from_vec(left))
         }
-        None => pushed(path, PlanStep::Each(Plan::Step(axis, test, Items::new(alloc)))),
+        None => pushed(
+            path,
+            PlanStep::Each(Plan::Step(axis, test, Items::new(alloc))),
+        ),
     }
 }
 

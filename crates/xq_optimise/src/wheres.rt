@@ -85,7 +85,11 @@ fn last_test(known: &[Held], left: &mut Vec<Plan>) -> Option<Plan>
     ensures keeps { result ≡ None → left.new.items ≡ left.old.items }
 {
     let test = left.last()?;
-    if is_test(known, test) { left.pop() } else { None }
+    if is_test(known, test) {
+        left.pop()
+    } else {
+        None
+    }
 }
 
 /// The parts of a list, the last first.

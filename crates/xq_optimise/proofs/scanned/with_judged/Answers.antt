@@ -1,4 +1,3 @@
-use Rattle.std.proofs.Common.{sym, subst, refl}
 use Rattle.std.proofs.lemmas.Result.{IfOk-weaker}
 use Rattle.xq_optimise.proofs.WholePaths.{judged_move, same_moves}
 use Rattle.xq_optimise.proofs.scanned.with_judged.Goals as goal

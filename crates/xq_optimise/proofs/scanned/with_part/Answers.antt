@@ -1,9 +1,7 @@
-use Rattle.std.proofs.Common.{refl, sym, subst}
+use Rattle.std.proofs.Common.{sym, subst}
 use Rattle.std.proofs.lemmas.Result.{IfOk-weaker}
-use Rattle.std.specs.List.{AllByRecursion}
 use Rattle.xq_meaning.specs.declared.plans.Plan.TheVariants as plan
 use Rattle.xq_meaning.specs.declared.plans.PlanStep.TheVariants as step
-use Rattle.xq_optimise.specs.Sure.{SurelyKeeps}
 use Rattle.xq_optimise.specs.private.Parts.{MovesOn}
 use Rattle.xq_optimise.proofs.WholePaths.{pushed_moves}
 use Rattle.xq_optimise.proofs.scanned.with_part.Goals as goal

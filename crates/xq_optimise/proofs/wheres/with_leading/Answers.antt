@@ -1,4 +1,3 @@
-use Rattle.std.proofs.Common.{refl}
 use Rattle.xq_optimise.proofs.Conjuncts.{none_taken, next_taken}
 use Rattle.xq_optimise.proofs.wheres.with_leading.Goals as goal
 

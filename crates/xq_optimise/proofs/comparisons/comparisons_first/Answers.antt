@@ -1,6 +1,6 @@
 use Rattle.std.proofs.Common.{◌≡◌, [], rules}
 use Rattle.xq_optimise.proofs.ComparisonsFirst.{none_split, first_split, second_split, all_split}
-use Rattle.xq_optimise.proofs.scanned.comparisons_first.Goals as goal
+use Rattle.xq_optimise.proofs.comparisons.comparisons_first.Goals as goal
 
 pub loop-next-init : goal.loop-next-init
 loop-next-init c = λ known sure.

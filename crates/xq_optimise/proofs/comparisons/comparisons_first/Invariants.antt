@@ -3,7 +3,7 @@ use Rattle.std.specs.List.{AllByRecursion}
 use Rattle.xq_optimise.specs.declared.held.Held.{Held}
 use Rattle.xq_optimise.specs.Sure.{SurelyKeeps}
 use Rattle.xq_optimise.proofs.ComparisonsFirst.{SplitBy}
-use Rattle.xq_optimise.proofs.scanned.comparisons_first.Given as goal
+use Rattle.xq_optimise.proofs.comparisons.comparisons_first.Given as goal
 
 abbrev pub invariant-loop-next : goal.invariant-loop-next
 invariant-loop-next l =
