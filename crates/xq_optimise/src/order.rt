@@ -9,6 +9,7 @@ use crate::held::Held;
 use crate::kinds::{held_by, of_each};
 use crate::lists::reversed;
 use crate::narrow::narrowed;
+use crate::positions::compared;
 use crate::scopes::{bind, forget};
 use crate::sure::{as_comparison, is_nodes, is_test};
 use crate::written::written;
@@ -181,13 +182,13 @@ fn have_moving_test(list: &[PlanClause]) -> bool {
     for clause in list {
         match clause {
             PlanClause::Where(test) => {
-                if may_move && as_comparison(test).is_some() {
+                if may_move && compared(test).is_some() {
                     return true;
                 }
                 may_move = !is_equality(test);
             }
             PlanClause::Let(_) => may_move = true,
-            PlanClause::For(AllowingEmpty::No, false, _) => may_move = true,
+            PlanClause::For(AllowingEmpty::No, _, _) => may_move = true,
             _ => may_move = false,
         }
     }
