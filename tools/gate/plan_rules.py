@@ -14,7 +14,7 @@ from collections.abc import Callable, Iterable, Iterator, Sequence
 from tools.gate.plan_forms import Form
 
 RULES = {
-    "comparisons": "a predicate that compares stands before others that ask the node alone",
+    "comparisons": "an equality stands before other predicates that ask the node alone",
     "filters": "a predicate that compares a key of each item is a group join",
     "firsts": "a `where` up to a position is a predicate of the `for` before it",
     "group_joins": "a `let` of what a join keeps of its range is a group join",

@@ -16,7 +16,7 @@ pub mod Splitting
 pub mod KindLaws
 pub mod NodesAtOnce
 pub mod WholePaths
-pub mod ComparisonsFirst
+pub mod EqualitiesFirst
 pub mod Rising
 pub mod JoinLaws
 pub mod Leaving

@@ -1,5 +1,5 @@
-//! Predicates that ask the node in focus alone: those that compare go first, since the values that
-//! are kept may serve them (XQuery 3.1, sections 2.3.4 and 3.3.3).
+//! Predicates that ask the node in focus alone: those that compare for equality go first, since the
+//! values that are kept may serve them (XQuery 3.1, sections 2.3.4 and 3.3.3).
 ghost use Rattle.std.specs.Prelude.{◌≡◌, List, IfOk, true};
 ghost use Rattle.std.specs.List.{AllByRecursion};
 ghost use Rattle.xq_meaning.specs.declared.plans.Plan.TheVariants as plan_of;
@@ -12,7 +12,7 @@ use crate::held::Held;
 use crate::kinds::gives_nodes;
 use crate::lists::reversed;
 use crate::predicates::{is_item_test, spliced};
-use crate::sure::as_comparison;
+use crate::sure::{as_comparison, is_equality};
 use sqlite_items::Items;
 use std::alloc::{AllocError, Global};
 use xq_meaning::Plan;
@@ -39,27 +39,28 @@ pub fn have_comparison(predicates: &[Plan]) -> bool {
     false
 }
 
-/// The predicates, those that compare before the others, where all ask the node in focus alone.
-pub fn comparisons_first(alloc: Global, predicates: Items<Plan>) -> Result<Items<Plan>, AllocError>
+/// The predicates, those that compare for equality before the others, where all ask the node in focus
+/// alone.
+pub fn equalities_first(alloc: Global, predicates: Items<Plan>) -> Result<Items<Plan>, AllocError>
     ensures { IfOk result (λ after. (known : List Known)
         → AllByRecursion (SurelyKeeps known) predicates → KeepsAlike known predicates after) }
 {
     let mut left = reversed(alloc, predicates)?;
-    let mut comparisons = Items::new(alloc);
+    let mut equalities = Items::new(alloc);
     let mut others = Items::new(alloc);
     while let Some(next) = left.pop() {
-        if as_comparison(&next).is_some() {
-            comparisons.push(next)?;
+        if is_equality(&next) {
+            equalities.push(next)?;
         } else {
             others.push(next)?;
         }
     }
-    comparisons.append(others)?;
-    Ok(comparisons)
+    equalities.append(others)?;
+    Ok(equalities)
 }
 
-/// Predicates that keep the same of any nodes: those that compare before the others, where all ask
-/// the node in focus alone.
+/// Predicates that keep the same of any nodes: those that compare for equality before the others,
+/// where all ask the node in focus alone.
 fn ordered(
     alloc: Global,
     known: &[Held],
@@ -68,7 +69,7 @@ fn ordered(
     ensures { IfOk result (λ found. SamePredicates known.now predicates found) }
 {
     if are_item_tests(known, predicates.as_slice()) {
-        comparisons_first(alloc, predicates)
+        equalities_first(alloc, predicates)
     } else {
         Ok(predicates)
     }

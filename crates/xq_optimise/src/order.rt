@@ -11,26 +11,15 @@ use crate::lists::reversed;
 use crate::narrow::narrowed;
 use crate::positions::compared;
 use crate::scopes::{bind, forget};
-use crate::sure::{as_comparison, is_nodes, is_test};
+use crate::sure::{is_equality, is_nodes, is_test};
 use crate::written::written;
 use sqlite_items::{Boxed, Items};
 use std::alloc::{AllocError, Global};
-use xq_expressions::{AllowingEmpty, Relation};
+use xq_expressions::AllowingEmpty;
 use xq_meaning::{Plan, PlanClause};
 
 /// How many clauses a test goes over at most, so that the time for a list is in proportion to it.
 const MOST: usize = 16;
-
-/// Whether the test is a general comparison for equality.
-fn is_equality(test: &Plan) -> bool {
-    match as_comparison(test) {
-        Some(found) => match found.relation {
-            Relation::Equal => true,
-            _ => false,
-        },
-        None => false,
-    }
-}
 
 /// Whether the clause is an equality that can't be refused and reads slots that are known.
 fn is_rising(known: &[Held], clause: &PlanClause) -> bool

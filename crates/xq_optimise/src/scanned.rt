@@ -9,9 +9,10 @@ ghost use Rattle.xq_optimise.specs.Same.{GivesSame};
 ghost use Rattle.xq_optimise.specs.Sure.{SurelyKeeps};
 ghost use Rattle.xq_optimise.specs.private.Parts.{MovesOn};
 
-use crate::comparisons::{are_item_tests, comparisons_first, have_comparison};
+use crate::comparisons::{are_item_tests, equalities_first, have_comparison};
 use crate::held::Held;
 use crate::lists::reversed;
+use crate::sure::is_equality;
 use sqlite_items::{Boxed, Items};
 use std::alloc::{AllocError, Global};
 use xq_meaning::{Plan, PlanStep, Test};
@@ -23,6 +24,14 @@ fn ends_in_double_slash(steps: &[PlanStep]) -> bool {
         return false;
     };
     matches!(test, Test::Any)
+}
+
+/// Whether evaluation looks at once for what passes the first predicate: an equality after `//`.
+fn is_looked_up(before: &[PlanStep], predicates: &[Plan]) -> bool {
+    let Some(first) = predicates.first() else {
+        return false;
+    };
+    ends_in_double_slash(before) && is_equality(first)
 }
 
 /// A path so far: what it starts from, and the steps that follow.
@@ -112,7 +121,8 @@ fn with_look_up(
     }
 }
 
-/// The path with a step whose predicates ask each node alone, those that compare first.
+/// The path with a step whose predicates ask each node alone: equalities first, and after `//` the
+/// first of them with its step.
 fn with_judged(
     alloc: Global,
     known: &[Held],
@@ -125,8 +135,8 @@ fn with_judged(
     ensures { IfOk result (λ found. MovesOn known.now (step_of.Each (plan_of.Step axis test predicates))
         path.start path.steps found.start found.steps) }
 {
-    let ordered = comparisons_first(alloc, predicates)?;
-    if ends_in_double_slash(path.steps.as_slice()) {
+    let ordered = equalities_first(alloc, predicates)?;
+    if is_looked_up(path.steps.as_slice(), ordered.as_slice()) {
         with_look_up(alloc, known, path, axis, test, ordered)
     } else {
         with_tests(alloc, path, axis, test, ordered)

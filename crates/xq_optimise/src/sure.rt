@@ -39,6 +39,17 @@ pub fn as_comparison(plan: &Plan) -> Option<Comparison<'_>>
     })
 }
 
+/// Whether the test is a general comparison for equality.
+pub fn is_equality(test: &Plan) -> bool {
+    match as_comparison(test) {
+        Some(found) => match found.relation {
+            Relation::Equal => true,
+            _ => false,
+        },
+        None => false,
+    }
+}
+
 /// Whether the part is a slot of nodes, or scans from one.
 pub fn is_nodes(known: &[Held], plan: &Plan) -> bool
     ensures sure { result ≡ true → SurelyNodes known.now plan.now }

@@ -9,7 +9,7 @@ pub returns-then-are_item_tests : goal.returns-then-are_item_tests
 returns-then-are_item_tests c =
     let known = c.args.known.now in
     let sure = subst (AllByRecursion (SurelyKeeps known)) c.as_slice.ensures (c.if-are_item_tests.ensures refl) in
-    IfOk-weaker c.comparisons_first.result _ _ (λ found h. (h known sure).1) c.comparisons_first.ensures
+    IfOk-weaker c.equalities_first.result _ _ (λ found h. (h known sure).1) c.equalities_first.ensures
 
 pub returns-else-are_item_tests : goal.returns-else-are_item_tests
 returns-else-are_item_tests c = same_itself c.args.known.now c.args.predicates

@@ -1,5 +1,5 @@
 use Rattle.std.proofs.lemmas.Result.{IfOk-weaker}
-use Rattle.xq_optimise.proofs.ComparisonsFirst.{same_then}
+use Rattle.xq_optimise.proofs.EqualitiesFirst.{same_then}
 use Rattle.xq_optimise.proofs.Splitting.{filter_same_on}
 use Rattle.xq_optimise.proofs.comparisons.spliced_after.Goals as goal
 

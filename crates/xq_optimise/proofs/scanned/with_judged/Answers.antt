@@ -2,15 +2,15 @@ use Rattle.std.proofs.lemmas.Result.{IfOk-weaker}
 use Rattle.xq_optimise.proofs.WholePaths.{judged_move, same_moves}
 use Rattle.xq_optimise.proofs.scanned.with_judged.Goals as goal
 
-pub returns-then-ends_in_double_slash : goal.returns-then-ends_in_double_slash
-returns-then-ends_in_double_slash c =
+pub returns-then-is_looked_up : goal.returns-then-is_looked_up
+returns-then-is_looked_up c =
     let known = c.args.known.now in
     let alike = c.in_ok-ordered.ensures known c.requires in
     IfOk-weaker c.with_look_up.result _ _
     (λ found h. same_moves known c.args.axis c.args.test c.args.predicates c.in_ok-ordered.ordered alike.1 c.args.path.start found.start c.args.path.steps found.steps h) c.with_look_up.ensures
 
-pub returns-else-ends_in_double_slash : goal.returns-else-ends_in_double_slash
-returns-else-ends_in_double_slash c =
+pub returns-else-is_looked_up : goal.returns-else-is_looked_up
+returns-else-is_looked_up c =
     let known = c.args.known.now in
     let alike = c.in_ok-ordered.ensures known c.requires in
     IfOk-weaker c.with_tests.result _ _
