@@ -14,7 +14,9 @@ from collections.abc import Callable, Iterable, Iterator, Sequence
 from tools.gate.plan_forms import Form
 
 RULES = {
+    "comparisons": "an equality stands before other predicates that ask the node alone",
     "filters": "a predicate that compares a key of each item is a group join",
+    "firsts": "a `where` up to a position is a predicate of the `for` before it",
     "group_joins": "a `let` of what a join keeps of its range is a group join",
     "group_returns": "a group join that is returned or counted is a clause",
     "joins": "a `for` and the `where` after it are a `join`",
@@ -26,7 +28,7 @@ RULES = {
     "returns": "a conditional that is returned is a `where`",
     "scanned": "predicates are judged over all nodes of a scan",
     "some_pairs": "`some` of one pair of texts is a general comparison",
-    "wheres": "a conjunction in a `where` is as many `where` clauses",
+    "wheres": "the first conjuncts of a `where` are as many `where` clauses",
     "written": "a variable that an equality reads is written out",
 }
 # A form of the optimised plan, and the rule that made it so.
@@ -136,6 +138,21 @@ def of_predicates(before: Sequence[Form], after: Sequence[Form]) -> Marks | None
     return None if left else marks
 
 
+def of_predicates_in_any_order(before: Sequence[Form], after: Sequence[Form], judging: Form,
+                               ) -> Marks | None:
+    """The rules in a list of predicates that a filter judges, where those that compare may have
+    come first."""
+    found = of_predicates(before, after)
+    if found is not None:
+        return found
+    conjuncts = [it for form in before for it in (form.parts if form.word == "and" else (form,))]
+    matched = assigned(conjuncts, after) if len(conjuncts) == len(after) else None
+    if matched is None:
+        return None
+    splits = [(judging, "predicates")] if len(conjuncts) > len(before) else []
+    return [*matched[1], *splits, (judging, "comparisons")]
+
+
 def conjunctions(left: Sequence[Form], count: int) -> list[Form]:
     """The first predicates, until they have so many conjuncts."""
     taken: list[Form] = []
@@ -157,7 +174,7 @@ def of_step(before: Form, after: Form) -> Marks | None:
 def of_filter(before: Form, after: Form) -> Marks | None:
     """The rules in what is filtered, and in the predicates."""
     start = derived(before.parts[0], after.parts[0])
-    predicates = of_predicates(before.parts[1:], after.parts[1:])
+    predicates = of_predicates_in_any_order(before.parts[1:], after.parts[1:], after)
     return None if start is None or predicates is None else start + predicates
 
 
@@ -192,13 +209,16 @@ def of_path(before: Form, after: Form) -> Marks | None:
 
 
 def of_scanned(before: Form, scan: Form, judging: Form) -> Marks | None:
-    """The rules where a scan and a filter stand for a step with predicates."""
+    """The rules where a filter stands for the predicates of a step, after a scan, or after the step
+    with the first of them."""
     step = before.parts[0] if before.word == "each" else before
-    if step.word != "step" or scan.word != "scan" or step.words != scan.words:
+    start = scan.parts[0] if scan.word == "each" else scan
+    if step.word != "step" or start.word not in ("scan", "step") or step.words != start.words:
         return None
-    if in_turn(step.parts[:1], scan.parts) is None:
+    if in_turn(step.parts[:1], start.parts[:1]) is None:
         return None
-    found = of_predicates(step.parts[1:], judging.parts[1:])
+    predicates = (*start.parts[1:], *judging.parts[1:])
+    found = of_predicates_in_any_order(step.parts[1:], predicates, judging)
     return None if found is None else [(judging, "scanned"), *found]
 
 
@@ -261,6 +281,19 @@ def slots(form: Form) -> Iterator[Form]:
         yield from slots(part)
 
 
+def bound_of(test: Form) -> tuple[str, tuple[str, ...]] | None:
+    """The relation and the number with which a test compares the position, or a slot in its
+    place."""
+    asked = [Form("call", ("position",)) if it.word == "slot" else it for it in (
+        test.parts if test.word == "chain" else ())]
+    if len(asked) != 2:
+        return None
+    first, operand = asked
+    right = Form("call", ("position",)) if operand.parts[0].word == "slot" else operand.parts[0]
+    found = position_test(Form("chain", (), (first, Form("operand", operand.words, (right,)))))
+    return None if found is None else (found[0], found[1].words)
+
+
 def narrowed_out(clause: Form, olds: Sequence[Form]) -> tuple[Form, ...]:
     """The `for` and the `where` that a `for` over a filter stands for, or the clause itself."""
     range_ = clause.parts[0] if clause.word == "for" else clause
@@ -268,6 +301,10 @@ def narrowed_out(clause: Form, olds: Sequence[Form]) -> tuple[Form, ...]:
         return (clause,)
     start, *others, (first, operand) = (*range_.parts[:-1], range_.parts[-1].parts)
     left = Form("filter", (), (start, *others)) if others else start
+    if "at" in clause.words:
+        bound = bound_of(range_.parts[-1])
+        tests = [it for it in olds if it.word == "where" and bound_of(it.parts[0]) == bound]
+        return (Form("for", clause.words, (left, *clause.parts[1:])), *tests[:1])
     for old in (it for it in olds if it.word == "where"):
         for slot in slots(old):
             right = Form("operand", operand.words, (of_variable(operand.parts[0], slot),))
@@ -336,13 +373,18 @@ def of_where(before: Form, left: Sequence[Form], values: Sequence[Form],
         return whole
     if before.parts[0].word == "and":
         places, marks = list[Form](), Marks()
-        for part in before.parts[0].parts:
+        parts = before.parts[0].parts
+        for number, part in enumerate(parts):
             rest = [it for it in left if it not in places]
-            found = of_where(Form("where", (), (part,)), rest, values)
+            others = Form("where", (), (Form("and", (), parts[number:]),))
+            together = assigned([others], rest) if number else None
+            found = together or of_where(Form("where", (), (part,)), rest, values)
             if found is None:
                 return None
             places += found[0]
             marks += [*found[1], *((it, "wheres") for it in found[0])]
+            if together:
+                break
         return places, marks
     written = [it for it in left if with_values(before, it, values)][:1]
     return (written, [(it, "written") for it in written]) if written else None
@@ -389,6 +431,11 @@ def of_returned_group(before: Form, after: Form) -> Marks | None:
     return None if found is None else [*found, (group, "group_returns")]
 
 
+def rule_of(clause: Form) -> str:
+    """The rule by which a `for` ranges over a filter in place of a `where` after it."""
+    return "firsts" if "at" in clause.words else "narrow"
+
+
 def of_parts(before: Form, after: Form) -> Marks | None:
     """The rules in the clauses of a FLWOR expression, and in what it returns."""
     olds, returned = before.parts[:-1], before.parts[-1].parts[0]
@@ -414,7 +461,7 @@ def of_parts(before: Form, after: Form) -> Marks | None:
         found += [(it, "returns") for it in [it for it in clauses if it.word == "where"][-1:]]
     if is_nested:
         found.append((after, "nested"))
-    whole = [(it, "narrow" if it in narrowed else "joins") for it in dict.fromkeys(
+    whole = [(it, rule_of(it) if it in narrowed else "joins") for it in dict.fromkeys(
         of_join.values())]
     return [*((of_join.get(it, it), rule) for it, rule in found), *whole, *result]
 

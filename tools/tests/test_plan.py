@@ -51,6 +51,9 @@ TITLE = path(1, 'child (element "t")')
 RANGE = f"(for {path(0, B)})"
 JOIN = f"(join = {path(0, B)} (carried 0) (key value 1 (scan {ID})) (key value 0 (scan {ID})))"
 TEST = f'(chain (step {ID}) (operand = (string "1")))'
+CHILD = '(step child (element "t"))'
+CAST = f'(chain (call xs:integer {path(0, ID)}) (operand > (integer 3)))'
+UP_TO = '(operand <= (integer 3))'
 OF_ITEM = f'(chain {path(1, ID)} (operand = (string "1")))'
 LAST = "(return (slot 1))"
 GROUP = f"(group-join = (slot 9) (key value 1 (scan {ID})) (key value 0 (scan {ID})))"
@@ -89,9 +92,20 @@ DERIVED = (
      ["group_joins", "group_returns", "joins"]),
     (f"(flwor {RANGE} (where {OF_ITEM}) {LAST})",
      f"(flwor (for (filter {path(0, B)} {TEST})) {LAST})", ["narrow"]),
+    (f"(flwor {RANGE} {RANGE} (where (and {EQUAL} {CAST})) {LAST})",
+     f"(flwor {RANGE} {JOIN} (where (and {CAST})) {LAST})", ["joins", "wheres"]),
+    (f"(flwor (for at {path(0, ID)}) (where (chain (slot 2) {UP_TO})) {LAST})",
+     f"(flwor (for at (filter {path(0, ID)} (chain (call position) {UP_TO}))) {LAST})", ["firsts"]),
+    (f"(path (root) (each {step(CHILD, TEST)}))",
+     f"(filter (path (root) (scan {B})) {TEST} {CHILD})", ["comparisons", "scanned"]),
+    (f"(path (root) (each {step(TEST, CHILD)}))",
+     f"(filter (path (root) (each {step(TEST)})) {CHILD})", ["scanned"]),
+    (f"(filter (slot 9) {CHILD} {TEST})", f"(filter (slot 9) {TEST} {CHILD})", ["comparisons"]),
 )
 # Of each rule a query to which it applies.
 QUERIES = {
+    "comparisons": 'doc("x")/a/b[c][@id = "1"]/d',
+    "firsts": 'for $a at $n in doc("x")//a where $n <= 10 return $a',
     "filters": 'for $a in doc("x")//a let $m := doc("x")/r/b[c = $a/c] return $m',
     "group_joins": 'for $a in doc("x")//a let $m := for $b in doc("x")//b where $b/c = $a/c'
                    ' return $b return $m',

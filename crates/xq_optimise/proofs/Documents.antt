@@ -25,7 +25,7 @@ all_scans : (steps : List (Axis × Test)) → AllByRecursion IsScan (map (λ s. 
 all_scans [] = tt
 all_scans (s ∷ steps) = ((s.0, s.1, refl), all_scans steps)
 
--- a path of which a step is no scan
+-- a path with a step that is no scan
 pub no_path_of_scans : (p start : Plan) (steps : List PlanStep) → p ≡ plan.Path start steps →
     (AllByRecursion IsScan steps → ⊥) → IsNoPathOfScans p
 no_path_of_scans p start steps is not-all address scans e =

@@ -112,7 +112,7 @@ module _ (range ranged : Meaning) (join inner : Join) (frame : Frame) (t : Tuple
       given (Ok tests, h) = ap (λ found. after_where found h) (satisfying_rows xs tests) ∙ rows_returned inside h [] (satisfying xs tests)
       given (Err code, h) = refl
 
-  -- a join, of which the last slot is returned, gives the items whose keys are equal
+  -- a join that returns its last slot gives the items whose keys are equal
   pub group_join_is : ((f : List Tree) → ranged (at_carried inner inside []) f ≡ range (at_carried join frame t) f) → (f : List Tree)
       → flwor (join_tuples ranged inner ∷ []) (slot (length (frame.env ++ t))) inside f ≡ equal_items range join frame t f
   group_join_is same f = by (ranged (at_carried inner inside []) f) ∙ ap (λ o. go_on o (λ xs. collected (if_equal join frame t) xs)) (same f)

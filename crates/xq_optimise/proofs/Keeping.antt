@@ -49,12 +49,12 @@ free_after t u i (p ∷ ps) j =
 
 -- # Those that keep the first
 
-either : (b : Bool) → (b ≡ true) ⊎ (b ≡ false)
+pub either : (b : Bool) → (b ≡ true) ⊎ (b ≡ false)
 either true = inl refl
 either false = inr refl
 
 module _ (e : ℕ → Bool) (closed : (i : ℕ) → e (suc i) ≡ true → e i ≡ true) where
-  later : (i : ℕ) → e i ≡ false → e (suc i) ≡ false
+  pub later : (i : ℕ) → e i ≡ false → e (suc i) ≡ false
   later i off = by_case (either (e (suc i)))
     where
       by_case : (e (suc i) ≡ true) ⊎ (e (suc i) ≡ false) → e (suc i) ≡ false

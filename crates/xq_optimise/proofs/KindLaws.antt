@@ -4,7 +4,7 @@ use Rattle.std.specs.Prelude.{Option, Some, None}
 use Rattle.std.specs.List.{AllByRecursion}
 use Rattle.std.proofs.lemmas.List.{map-append}
 use Rattle.xq_atoms.specs.Judged.{Judged, ◌>>=◌}
-use Rattle.xq_atoms.specs.Atom.{Atomic, Integer, Decimal, String, Boolean, Untyped}
+use Rattle.xq_atoms.specs.Atom.{Atomic}
 use Rattle.xq_atoms.specs.Cast.{text_of}
 use Rattle.xq_atoms.specs.Compare.{key, key_eq}
 use Rattle.xq_atoms.specs.Text.{Text}
@@ -20,12 +20,12 @@ use Rattle.xq_meaning.specs.declared.plans.Plan.{Plan}
 use Rattle.xq_meaning.specs.declared.plans.Plan.TheVariants as plan
 use Rattle.xq_meaning.specs.declared.plans.PlanStep.{PlanStep}
 use Rattle.xq_meaning.specs.declared.plans.PlanStep.TheVariants as step
-use Rattle.xq_meaning.specs.Arguments.{all_nodes, each, one_text, text}
+use Rattle.xq_meaning.specs.Arguments.{all_nodes, one_text, text}
 use Rattle.xq_meaning.specs.Doing.{Doing, Outcome, go_on, give, judged, on_trees, in_turn, more, for_each, collected}
 use Rattle.xq_meaning.specs.Forms
 use Rattle.xq_meaning.specs.Functions.{Focus, called, distinct_values, item_text, string}
 use Rattle.xq_meaning.specs.Items.{Place, Item, Node, Atom, atomized, in_document_order}
-use Rattle.xq_meaning.specs.Operators.{gathered, in_order, nodes_or_atoms}
+use Rattle.xq_meaning.specs.Operators.{gathered, nodes_or_atoms}
 use Rattle.xq_meaning.specs.PlanMeaning.{Slots, Frame, Meaning, plan_mean, plan_step_mean}
 use Rattle.xq_meaning.specs.Same.{frame_of}
 use Rattle.xq_meaning.specs.Steps.{context_node, focuses, is_reverse, in_axis_order, axis_nodes}
@@ -34,7 +34,7 @@ use Rattle.xq_meaning.proofs.PlanEquations as plan_eq
 use Rattle.xq_meaning.proofs.Turns.{last_turn}
 use Rattle.xq_optimise.specs.declared.held.Held.{Held}
 use Rattle.xq_optimise.specs.declared.held.Held.TheVariants as has
-use Rattle.xq_optimise.specs.Known.{AreNodes, AreFew, Holds, IsText, IsTextItem, Fits}
+use Rattle.xq_optimise.specs.Known.{AreNodes, AreFew, Holds, IsText, IsTextItem}
 use Rattle.xq_optimise.specs.Sure.{SurelyFindsTexts, on_node}
 use Rattle.xq_optimise.specs.private.Kinds.{AreSlotTexts, EndsInText, GivesText, IsOfText, IsSlotOfOne, IsStep, IsString, LeavesNodes}
 use Rattle.xq_optimise.specs.private.Parts.{GivesHeld, IsHeld, IsKnown, IsOfOne, IsOfTexts}

@@ -16,6 +16,7 @@ pub mod Splitting
 pub mod KindLaws
 pub mod NodesAtOnce
 pub mod WholePaths
+pub mod EqualitiesFirst
 pub mod Rising
 pub mod JoinLaws
 pub mod Leaving
@@ -24,6 +25,7 @@ pub mod GroupLets
 pub mod SlotsOutside
 pub mod FromOne
 pub mod FilterLaws
+pub mod FirstItems
 pub mod GroupMatches
 pub mod StepGroups
 pub mod NarrowRanges

@@ -1,8 +1,8 @@
 -- A `where` after a `for` that compares a key of the node is a predicate of what it ranges over.
-use Rattle.std.proofs.Common.{◌≡◌, ℕ, ◌+◌, ◌≤◌, List, [], ◌∷◌, ◌++◌, map, length, reverse, arith, Bool, true, false, Ok, Err, refl, sym, ap, ◌∙◌, subst, ◌⊎◌, inl, inr, if◌then◌else◌}
+use Rattle.std.proofs.Common.{◌≡◌, ℕ, ◌+◌, List, [], ◌∷◌, ◌++◌, map, length, reverse, arith, Bool, true, false, Ok, Err, refl, sym, ap, ◌∙◌, subst, ◌⊎◌, inl, inr, if◌then◌else◌}
 use Rattle.std.specs.Prelude.{Option, Some, filter, ◌&&◌}
 use Rattle.std.specs.List.{AllByRecursion, enumerate_from, zip}
-use Rattle.std.proofs.lemmas.List.{append_assoc, append-nil, length-append, map-append, reverse-append}
+use Rattle.std.proofs.lemmas.List.{append_assoc, append-nil, length-append, reverse-append}
 use Rattle.std.proofs.lemmas.List.Concat.{flat_map-cons}
 use Rattle.xq_atoms.specs.Judged.{Judged}
 use Rattle.xq_atoms.specs.Text.{Text}
@@ -21,14 +21,13 @@ use Rattle.xq_meaning.specs.declared.plans.Plan.{Plan}
 use Rattle.xq_meaning.specs.declared.plans.Plan.TheVariants as plan
 use Rattle.xq_meaning.specs.declared.plans.PlanClause.{PlanClause}
 use Rattle.xq_meaning.specs.declared.plans.PlanClause.TheVariants as clause
-use Rattle.xq_meaning.specs.declared.plans.PlanStep.{PlanStep}
 use Rattle.xq_meaning.specs.Arguments.{as_boolean, boolean, effective}
 use Rattle.xq_meaning.specs.Doing.{Doing, Outcome, ◌>>=◌, go_on, give, judged, on_trees, in_turn, one_more, more, for_each}
 use Rattle.xq_meaning.specs.Forms
 use Rattle.xq_meaning.specs.Functions.{Focus}
 use Rattle.xq_meaning.specs.Items.{Place, Item, Node, Atom, atomized}
 use Rattle.xq_meaning.specs.Operators.{keeps, operated, related_by, some_pair}
-use Rattle.xq_meaning.specs.PlanMeaning.{Slots, Frame, at_tuple, key_mean, next_clause, opened, plan_mean, plan_clause_mean}
+use Rattle.xq_meaning.specs.PlanMeaning.{Slots, Frame, at_tuple, next_clause, opened, plan_mean, plan_clause_mean}
 use Rattle.xq_meaning.specs.Same.{frame_of}
 use Rattle.xq_meaning.proofs.PlanEquations as plan_eq
 use Rattle.xq_meaning.proofs.Turns.{begun_then, go_on_give, in_turn-append}
@@ -38,7 +37,7 @@ use Rattle.xq_optimise.specs.Known.{Fits}
 use Rattle.xq_optimise.specs.Sure.{on_node}
 use Rattle.xq_optimise.specs.private.Filters.{LeadsTo, at_node, with_node}
 use Rattle.xq_optimise.specs.private.Joins.{LeavesTrees, StartsAt, scan_step}
-use Rattle.xq_optimise.specs.private.Order.{SameRest, SameTurns}
+use Rattle.xq_optimise.specs.private.Order.{SameRest}
 use Rattle.xq_optimise.specs.private.Parts.{AllFit, GivesHeld, IsHeld, IsScan, general_comparison}
 use Rattle.xq_optimise.specs.private.Ranges.{IsNarrower, IsNodeSide, Narrows, TellsOfNode}
 use Rattle.xq_optimise.proofs.FilterLaws.{scans_side}

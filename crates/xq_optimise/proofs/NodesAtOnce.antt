@@ -57,7 +57,7 @@ filter_all : {A : Type 0} (xs : List A) → filter (λ x. true) xs ≡ xs
 filter_all [] = refl
 filter_all (x ∷ xs) = ap (λ ys. x ∷ ys) (filter_all xs)
 
-filter_like : {A : Type 0} (k l : A → Bool) → ((x : A) → k x ≡ l x) → (xs : List A) → filter k xs ≡ filter l xs
+pub filter_like : {A : Type 0} (k l : A → Bool) → ((x : A) → k x ≡ l x) → (xs : List A) → filter k xs ≡ filter l xs
 filter_like k l same [] = refl
 filter_like k l same (x ∷ xs) = (λ i. if same x i then x ∷ filter_like k l same xs i else filter_like k l same xs i)
 

@@ -46,13 +46,13 @@ one_pair : (b : Bool) → (or_rest b (Ok false) >>= (λ found. or_rest found (Ok
 one_pair true = refl
 one_pair false = refl
 
-pairs_give : (by : Relation) (a b : ℤ) (f : List Tree) →
+pub pairs_give : (by : Relation) (a b : ℤ) (f : List Tree) →
     operated (operator.Comparison (comparing.General by)) f (atomic (Integer a)) (atomic (Integer b)) ≡ Ok (boolean (answer by a b))
 pairs_give by a b f =
     let pair : some_pair (related_by by) (Integer a ∷ []) (Integer b ∷ []) ≡ Ok (answer by a b) = one_pair (answer by a b) in
     ap as_boolean pair
 
-values_give : (by : Relation) (a b : ℤ) (f : List Tree) →
+pub values_give : (by : Relation) (a b : ℤ) (f : List Tree) →
     operated (operator.Comparison (comparing.Value by)) f (atomic (Integer a)) (atomic (Integer b)) ≡ Ok (boolean (answer by a b))
 values_give by a b f = refl
 
@@ -107,7 +107,7 @@ module _ (slots : Slots) (focus : Option Focus) (addresses : List Text) (trees :
   abbrev frame : Frame
   frame = frame_of slots focus addresses
 
-  number_after : (op : Operator) (n : ℤ) → plan_mean (plan.Chain position_call ((op, plan.Int n) ∷ [])) frame trees
+  pub number_after : (op : Operator) (n : ℤ) → plan_mean (plan.Chain position_call ((op, plan.Int n) ∷ [])) frame trees
       ≡ go_on (position_value focus, trees) (λ xs. on_trees (λ ts. operated op ts xs (atomic (Integer n))))
   number_after op n =
       ap (λ m. m frame trees) (plan_eq.plan-Chain position_call ((op, plan.Int n) ∷ []))

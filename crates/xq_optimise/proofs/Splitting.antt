@@ -73,25 +73,26 @@ next_below i =
     let counted : i * 1000000 < suc i * 1000000 = omega arith in
     sym (int_cmp_is (in_millionths (pos i)) (in_millionths (pos (suc i))) Less (lt_z_yes {a = pos (i * 1000000)} {b = pos (suc i * 1000000)} (yes_ltb counted)))
 
+-- what holds at a position holds at the one before it
+pub less_falls : (n : ℤ) (i : ℕ) → answer relation.Less (pos (suc i)) n ≡ true → answer relation.Less (pos i) n ≡ true
+less_falls n i on' =
+    let b = in_millionths (pos (suc i)) in
+    let c = in_millionths n in
+    ap (holds (related_by relation.Less)) (below_both (in_millionths (pos i)) b c (int_cmp b c) (next_below i) refl (int_ranks b c) (λ e. false≢true (sym (ap (holds (related_by relation.Less)) e) ∙ on')))
+
+pub less_equal_falls : (n : ℤ) (i : ℕ) → answer relation.LessEqual (pos (suc i)) n ≡ true → answer relation.LessEqual (pos i) n ≡ true
+less_equal_falls n i on' =
+    let b = in_millionths (pos (suc i)) in
+    let c = in_millionths n in
+    ap (holds (related_by relation.LessEqual)) (below_both (in_millionths (pos i)) b c (int_cmp b c) (next_below i) refl (int_ranks b c) (λ e. false≢true (sym (ap (holds (related_by relation.LessEqual)) e) ∙ on')))
+
 pub less_first : (known : List Held) (n : ℤ) (p : Plan) → TestsPosition relation.Less n p → KeepsFirst known p
-less_first known n p h slots addresses trees fits = (
-  λ i. answer relation.Less (pos i) n,
-  λ i on'.
-      let b = in_millionths (pos (suc i)) in
-      let c = in_millionths n in
-      ap (holds (related_by relation.Less)) (below_both (in_millionths (pos i)) b c (int_cmp b c) (next_below i) refl (int_ranks b c) (λ e. false≢true (sym (ap (holds (related_by relation.Less)) e) ∙ on'))),
-  position_decides relation.Less n p h slots addresses trees,
-)
+less_first known n p h slots addresses trees fits =
+    ((λ i. answer relation.Less (pos i) n), less_falls n, position_decides relation.Less n p h slots addresses trees)
 
 pub less_equal_first : (known : List Held) (n : ℤ) (p : Plan) → TestsPosition relation.LessEqual n p → KeepsFirst known p
-less_equal_first known n p h slots addresses trees fits = (
-  λ i. answer relation.LessEqual (pos i) n,
-  λ i on'.
-      let b = in_millionths (pos (suc i)) in
-      let c = in_millionths n in
-      ap (holds (related_by relation.LessEqual)) (below_both (in_millionths (pos i)) b c (int_cmp b c) (next_below i) refl (int_ranks b c) (λ e. false≢true (sym (ap (holds (related_by relation.LessEqual)) e) ∙ on'))),
-  position_decides relation.LessEqual n p h slots addresses trees,
-)
+less_equal_first known n p h slots addresses trees fits =
+    ((λ i. answer relation.LessEqual (pos i) n), less_equal_falls n, position_decides relation.LessEqual n p h slots addresses trees)
 
 pub keeps_decides : (known : List Held) (p : Plan) → SurelyKeeps known p → SurelyDecides known p
 keeps_decides known p h slots addresses trees fits =

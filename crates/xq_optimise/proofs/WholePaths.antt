@@ -1,6 +1,6 @@
 -- A path in which steps with tests are scans, and the tests go over all that was found at once.
 use Rattle.std.proofs.Common.{◌≡◌, List, [], ◌∷◌, ◌++◌, map, reverse, Bool, true, Ok, Err, refl, sym, ap, ◌∙◌, subst}
-use Rattle.std.specs.Prelude.{◌&&◌}
+use Rattle.std.specs.Prelude.{Option, ◌&&◌}
 use Rattle.std.specs.List.{AllByRecursion}
 use Rattle.std.proofs.lemmas.List.{append_assoc, append-nil, map-append, reverse-append, reverse-reverse}
 use Rattle.xq_atoms.specs.Text.{Text}
@@ -11,23 +11,25 @@ use Rattle.xq_meaning.specs.declared.plans.Plan.{Plan}
 use Rattle.xq_meaning.specs.declared.plans.Plan.TheVariants as plan
 use Rattle.xq_meaning.specs.declared.plans.PlanStep.{PlanStep}
 use Rattle.xq_meaning.specs.declared.plans.PlanStep.TheVariants as step
-use Rattle.xq_meaning.specs.Doing.{Outcome, go_on, in_turn}
+use Rattle.xq_meaning.specs.Doing.{Doing, Outcome, give, go_on, in_turn}
 use Rattle.xq_meaning.specs.Forms
+use Rattle.xq_meaning.specs.Functions.{Focus}
 use Rattle.xq_meaning.specs.Items.{Item, Place}
-use Rattle.xq_meaning.specs.PlanMeaning.{Slots, Frame, next_step, plan_mean, plan_step_mean}
+use Rattle.xq_meaning.specs.PlanMeaning.{Slots, Frame, Meaning, next_step, plan_mean, plan_step_mean}
 use Rattle.xq_meaning.specs.Same.{frame_of}
 use Rattle.xq_meaning.proofs.PlanEquations as plan_eq
 use Rattle.xq_meaning.proofs.Turns.{go_on_give, last_turn}
 use Rattle.xq_optimise.specs.declared.held.Held.{Held}
 use Rattle.xq_optimise.specs.Known.{Fits}
 use Rattle.xq_optimise.specs.Same.{GivesSame}
-use Rattle.xq_optimise.specs.Sure.{SurelyKeeps}
+use Rattle.xq_optimise.specs.Sure.{SamePredicates, SurelyKeeps}
 use Rattle.xq_optimise.specs.private.Parts.{MovesOn}
-use Rattle.xq_optimise.proofs.Forms.{then_gives}
+use Rattle.xq_optimise.proofs.Forms.{each_gives, then_gives}
 use Rattle.xq_optimise.proofs.NodesAtOnce.{AllTold, step_scans}
+use Rattle.xq_optimise.proofs.Splitting.{step_same_on}
 
 -- the tests have a truth at each node
-tells : (known : List Held) (ps : List Plan) → AllByRecursion (SurelyKeeps known) ps → (slots : Slots) (addresses : List Text) (f : List Tree) → Fits known slots →
+pub tells : (known : List Held) (ps : List Plan) → AllByRecursion (SurelyKeeps known) ps → (slots : Slots) (addresses : List Text) (f : List Tree) → Fits known slots →
     (k : Place → Bool) × AllTold slots addresses f (map plan_mean ps) k
 tells known [] all slots addresses f fits = ((λ p. true), λ p. refl)
 tells known (p ∷ ps) all slots addresses f fits =
@@ -146,3 +148,73 @@ pub judged_move : (known : List Held) (axis : Axis) (test : Test) (ps : List Pla
 judged_move known axis test ps all from from' scans scans' (none, now) =
     subst (λ ss. MovesOn known (step.Each (plan.Step axis test ps)) from scans from' ss) (sym none)
     (tests_move known axis test ps all (step.Each (plan.Step axis test ps)) from from' scans refl now)
+
+-- # A step whose first predicate stays, and whose others go over all that it finds
+
+then_one : (act : List Item → Meaning → Doing (List Item)) (m : Meaning) (ms : List Meaning) (o : Outcome (List Item)) →
+    go_on (go_on o (λ ys. in_turn act ys (m ∷ []))) (λ ys. in_turn act ys ms) ≡ go_on o (λ ys. in_turn act ys (m ∷ ms))
+then_one act m ms (Err code, g) = refl
+then_one act m ms (Ok ys, g) = by (act ys m g)
+  where
+    by : (o : Outcome (List Item)) → go_on (go_on o (λ zs. give zs)) (λ zs. in_turn act zs ms) ≡ go_on o (λ zs. in_turn act zs ms)
+    by (Ok zs, h) = refl
+    by (Err code, h) = refl
+
+-- a step whose predicates have a truth at each node is a scan and then these
+scanned : (known : List Held) (axis : Axis) (test : Test) (qs : List Plan) → AllByRecursion (SurelyKeeps known) qs → (slots : Slots) (focus : Option Focus) (addresses : List Text) → Fits known slots →
+    (xs : List Item) (g : List Tree) →
+    plan_step_mean (step.Each (plan.Step axis test qs)) (frame_of slots focus addresses) xs g
+    ≡ go_on (Forms.scan axis test xs g) (λ ys. in_turn (Forms.filtered (frame_of slots focus addresses)) ys (map plan_mean qs))
+scanned known axis test qs sure slots focus addresses fits xs g =
+    let here = frame_of slots focus addresses in
+    let told = tells known qs sure slots addresses g fits in
+    ap (λ m. m here xs g) (plan_eq.step-Each (plan.Step axis test qs))
+    ∙ ap (λ m. Forms.slash here xs m g) (plan_eq.plan-Step axis test qs)
+    ∙ step_scans slots addresses g axis test (map plan_mean qs) told.0 told.1 focus xs
+
+first_kept : (known : List Held) (axis : Axis) (test : Test) (p : Plan) (ps : List Plan) → AllByRecursion (SurelyKeeps known) (p ∷ ps) → (slots : Slots) (focus : Option Focus) (addresses : List Text) →
+    Fits known slots → (o : Outcome (List Item)) →
+    go_on (go_on o (λ xs. plan_step_mean (step.Each (plan.Step axis test (p ∷ []))) (frame_of slots focus addresses) xs)) (λ ys. in_turn (Forms.filtered (frame_of slots focus addresses)) ys (map plan_mean ps))
+    ≡ go_on o (λ xs. plan_step_mean (step.Each (plan.Step axis test (p ∷ ps))) (frame_of slots focus addresses) xs)
+first_kept known axis test p ps all slots focus addresses fits (Err code, g) = refl
+first_kept known axis test p ps all slots focus addresses fits (Ok xs, g) =
+    let here = frame_of slots focus addresses in
+    ap (λ o. go_on o (λ ys. in_turn (Forms.filtered here) ys (map plan_mean ps))) (scanned known axis test (p ∷ []) (all.0, tt) slots focus addresses fits xs g)
+    ∙ then_one (Forms.filtered here) (plan_mean p) (map plan_mean ps) (Forms.scan axis test xs g)
+    ∙ sym (scanned known axis test (p ∷ ps) all slots focus addresses fits xs g)
+
+first_move : (known : List Held) (axis : Axis) (test : Test) (p : Plan) (ps : List Plan) → AllByRecursion (SurelyKeeps known) (p ∷ ps) → (from from' : Plan) (scans : List PlanStep) →
+    from' ≡ plan.Filter (plan.Path from (scans ++ step.Each (plan.Step axis test (p ∷ [])) ∷ [])) ps → MovesOn known (step.Each (plan.Step axis test (p ∷ ps))) from scans from' []
+first_move known axis test p ps all from from' scans now start taken same slots focus addresses trees fits =
+    let here = frame_of slots focus addresses in
+    let lone = step.Each (plan.Step axis test (p ∷ [])) in
+    path_none from' here trees
+    ∙ ap (λ q. plan_mean q here trees) now
+    ∙ ap (λ m. m here trees) (plan_eq.plan-Filter (plan.Path from (scans ++ lone ∷ [])) ps)
+    ∙ ap (λ o. go_on o (λ xs. in_turn (Forms.filtered here) xs (map plan_mean ps))) (path_more from scans lone here trees
+    ∙ ap (λ o. go_on o (λ xs. plan_step_mean lone here xs)) (same slots focus addresses trees fits))
+    ∙ first_kept known axis test p ps all slots focus addresses fits (plan_mean (plan.Path start taken) here trees)
+    ∙ sym (path_more start taken (step.Each (plan.Step axis test (p ∷ ps))) here trees)
+
+pub first_moves : (known : List Held) (axis : Axis) (test : Test) (p : Plan) (ps : List Plan) → AllByRecursion (SurelyKeeps known) (p ∷ ps) → (from from' : Plan) (scans scans' : List PlanStep) →
+    (scans' ≡ []) × (from' ≡ plan.Filter (plan.Path from (scans ++ step.Each (plan.Step axis test (p ∷ [])) ∷ [])) ps) →
+    MovesOn known (step.Each (plan.Step axis test (p ∷ ps))) from scans from' scans'
+first_moves known axis test p ps all from from' scans scans' (none, now) =
+    subst (λ ss. MovesOn known (step.Each (plan.Step axis test (p ∷ ps))) from scans from' ss) (sym none) (first_move known axis test p ps all from from' scans now)
+
+-- # Other predicates that keep the same
+
+pub same_moves : (known : List Held) (axis : Axis) (test : Test) (ps qs : List Plan) → SamePredicates known ps qs → (from from' : Plan) (scans scans' : List PlanStep) →
+    MovesOn known (step.Each (plan.Step axis test qs)) from scans from' scans' → MovesOn known (step.Each (plan.Step axis test ps)) from scans from' scans'
+same_moves known axis test ps qs same from from' scans scans' moves start taken h slots focus addresses trees fits =
+    let here = frame_of slots focus addresses in
+    moves start taken h slots focus addresses trees fits
+    ∙ path_more start taken (step.Each (plan.Step axis test qs)) here trees
+    ∙ by (plan_mean (plan.Path start taken) here trees)
+    ∙ sym (path_more start taken (step.Each (plan.Step axis test ps)) here trees)
+  where
+    by : (o : Outcome (List Item)) →
+        go_on o (λ xs. plan_step_mean (step.Each (plan.Step axis test qs)) (frame_of slots focus addresses) xs)
+        ≡ go_on o (λ xs. plan_step_mean (step.Each (plan.Step axis test ps)) (frame_of slots focus addresses) xs)
+    by (Err code, g) = refl
+    by (Ok xs, g) = each_gives known (plan.Step axis test ps) (plan.Step axis test qs) (step_same_on known axis test ps qs same) slots focus addresses fits xs g

@@ -22,7 +22,7 @@ SurelyNodes known p =
     Fits known slots → (places : List Place)
     × (plan_mean p (frame_of slots focus addresses) trees ≡ (Ok (map Node places), trees))
 
--- it gives a value, of which each item atomizes to a text, and leaves the trees as they are
+-- each item of its value atomizes to a text, and it leaves the trees as they are
 abbrev pub SurelyTexts : List Held → Plan → Type 0
 SurelyTexts known p =
     (slots : Slots) (focus : Option Focus) (addresses : List Text) (trees : List Tree) →

@@ -175,7 +175,7 @@ pub fn compares_last(test: &Plan, slots: usize) -> bool {
     }
 }
 
-/// The keys that a test compares for equality, one of which is in the last of so many slots.
+/// The keys that a test compares for equality: one is in the last of so many slots.
 fn keys_of(
     alloc: Global,
     carried: Option<usize>,
@@ -240,7 +240,7 @@ fn start_slot(plan: &Plan) -> Option<usize>
     }
 }
 
-/// Whether a range may give nodes or texts, of which a join makes a table. (Numbers are compared
+/// Whether a range may give nodes or texts, so that a join makes a table. (Numbers are compared
 /// faster by the test.)
 pub fn may_give_texts(range: &Plan) -> bool {
     match range {

@@ -6,7 +6,9 @@ ghost use Rattle.xq_atoms.specs.declared.refusals.Want.TheVariants.{Memory};
 ghost use Rattle.xq_optimise.specs.Same.{GivesSame};
 ghost use Rattle.xq_optimise.specs.Scans.{KeepsScans};
 
+mod comparisons;
 mod filters;
+mod firsts;
 mod group_joins;
 mod group_returns;
 mod held;

@@ -1,5 +1,5 @@
 //! Lists that are gone through by handing their items on.
-ghost use Rattle.std.specs.Prelude.{◌≡◌, IfOk, reverse};
+ghost use Rattle.std.specs.Prelude.{◌≡◌, ◌++◌, ◌∷◌, [], IfOk, reverse};
 
 use sqlite_items::Items;
 use std::alloc::{AllocError, Global};
@@ -14,4 +14,13 @@ pub fn reversed<T: Drop>(alloc: Global, list: Items<T>) -> Result<Vec<T>, AllocE
         found.push(item)?;
     }
     Ok(found)
+}
+
+/// The items that are left, the last first, and one that comes before them.
+pub fn with_next<T: Drop>(left: Vec<T>, next: T) -> Result<Vec<T>, AllocError>
+    ensures { IfOk result (λ after. after.items ≡ left.items ++ next ∷ []) }
+{
+    let mut after = left;
+    after.push(next)?;
+    Ok(after)
 }

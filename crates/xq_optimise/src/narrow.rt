@@ -12,10 +12,11 @@ ghost use Rattle.xq_optimise.specs.private.Parts.{IsHeld};
 ghost use Rattle.xq_optimise.specs.private.Ranges.{IsNarrower, IsNodeSide, Narrows, TellsOfNode};
 
 use crate::filters::passes_documents;
+use crate::firsts::with_firsts;
 use crate::held::Held;
 use crate::joins::slot_key;
 use crate::kinds::gives_nodes;
-use crate::lists::reversed;
+use crate::lists::{reversed, with_next};
 use crate::outside::reads_outside;
 use crate::sure::as_comparison;
 use crate::written::{comparison, steps_of};
@@ -90,15 +91,6 @@ fn focus_test(alloc: Global, known: &[Held], test: &Plan) -> Result<Option<Plan>
         return Ok(None);
     };
     Ok(Some(comparison(alloc, found.relation, left, right)?))
-}
-
-/// The clauses that are left, the last first, and one that comes before them.
-fn with_next(left: Vec<PlanClause>, next: PlanClause) -> Result<Vec<PlanClause>, AllocError>
-    ensures { IfOk result (λ after. after.items ≡ left.items ++ next ∷ []) }
-{
-    let mut after = left;
-    after.push(next)?;
-    Ok(after)
 }
 
 /// A `for` over these items.
@@ -243,8 +235,11 @@ fn with_clause(
 {
     match next {
         PlanClause::For(empties, at, range) => {
-            if at || !drops_empty(empties) {
-                with_next(left, PlanClause::For(empties, at, range))
+            if !drops_empty(empties) {
+                return with_next(left, PlanClause::For(empties, at, range));
+            }
+            if at {
+                with_firsts(alloc, known, left, range)
             } else {
                 with_for(alloc, known, left, range)
             }
@@ -253,8 +248,8 @@ fn with_clause(
     }
 }
 
-/// The clauses that are left, of which the last comes next: a `for` over what a predicate keeps in
-/// place of a `for` and a `where` that are one.
+/// The clauses that are left, the last first: a `for` over what a predicate keeps in place of a
+/// `for` and a `where` that are one.
 pub fn narrowed(
     alloc: Global,
     known: &[Held],

@@ -9,27 +9,17 @@ use crate::held::Held;
 use crate::kinds::{held_by, of_each};
 use crate::lists::reversed;
 use crate::narrow::narrowed;
+use crate::positions::compared;
 use crate::scopes::{bind, forget};
-use crate::sure::{as_comparison, is_nodes, is_test};
+use crate::sure::{is_equality, is_nodes, is_test};
 use crate::written::written;
 use sqlite_items::{Boxed, Items};
 use std::alloc::{AllocError, Global};
-use xq_expressions::{AllowingEmpty, Relation};
+use xq_expressions::AllowingEmpty;
 use xq_meaning::{Plan, PlanClause};
 
 /// How many clauses a test goes over at most, so that the time for a list is in proportion to it.
 const MOST: usize = 16;
-
-/// Whether the test is a general comparison for equality.
-fn is_equality(test: &Plan) -> bool {
-    match as_comparison(test) {
-        Some(found) => match found.relation {
-            Relation::Equal => true,
-            _ => false,
-        },
-        None => false,
-    }
-}
 
 /// Whether the clause is an equality that can't be refused and reads slots that are known.
 fn is_rising(known: &[Held], clause: &PlanClause) -> bool
@@ -52,7 +42,7 @@ fn is_passed(known: &[Held], clause: &PlanClause) -> bool
     }
 }
 
-/// The clauses that are left, of which the last comes next, after others that come before them.
+/// The clauses that are left, the last first, after others that come before them.
 fn put_back(left: Vec<PlanClause>, others: Vec<PlanClause>) -> Result<Vec<PlanClause>, AllocError>
     ensures { IfOk result (λ after. after.items ≡ left.items ++ reverse others.items) }
 {
@@ -123,8 +113,8 @@ fn may_pass(known: &[Held], passed: &[PlanClause], next: &PlanClause) -> bool
     passed.len() < MOST && is_passed(known, next)
 }
 
-/// The clauses that are left, of which the last comes next: first an equality that may come before
-/// those that stand before it.
+/// The clauses that are left, the last first: first an equality that may come before those that
+/// stand before it.
 fn risen(
     alloc: Global,
     known: &[Held],
@@ -181,13 +171,13 @@ fn have_moving_test(list: &[PlanClause]) -> bool {
     for clause in list {
         match clause {
             PlanClause::Where(test) => {
-                if may_move && as_comparison(test).is_some() {
+                if may_move && compared(test).is_some() {
                     return true;
                 }
                 may_move = !is_equality(test);
             }
             PlanClause::Let(_) => may_move = true,
-            PlanClause::For(AllowingEmpty::No, false, _) => may_move = true,
+            PlanClause::For(AllowingEmpty::No, _, _) => may_move = true,
             _ => may_move = false,
         }
     }

@@ -47,7 +47,7 @@ pub fn reads_outside(outer: usize, plan: &Plan) -> bool
 
 /// Whether each part does.
 #[cycle(outside)]
-fn all_read_outside(outer: usize, parts: &[Plan]) -> bool
+pub fn all_read_outside(outer: usize, parts: &[Plan]) -> bool
     ensures { result ≡ true → AllByRecursion (IsOutside outer) parts.now }
 {
     for part in parts {

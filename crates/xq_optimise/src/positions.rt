@@ -31,7 +31,7 @@ fn is_position(plan: &Plan) -> bool
 }
 
 /// The relation of the right operand to the left one.
-fn turned(relation: Relation) -> Relation
+pub fn turned(relation: Relation) -> Relation
     ensures { result ≡ positions.turned relation }
 {
     match relation {
@@ -45,7 +45,7 @@ fn turned(relation: Relation) -> Relation
 }
 
 /// The comparison that the plan is, of values or general.
-fn compared(plan: &Plan) -> Option<Comparison<'_>>
+pub fn compared(plan: &Plan) -> Option<Comparison<'_>>
     ensures { IfSome result (λ it.
         positions.Compares it.relation it.left.now it.right.now plan.now) }
 {
@@ -71,7 +71,7 @@ fn compared(plan: &Plan) -> Option<Comparison<'_>>
 }
 
 /// The comparison of `position()` with the integer literal that this part is.
-fn with_number(relation: Relation, part: &Plan) -> Option<PositionTest>
+pub fn with_number(relation: Relation, part: &Plan) -> Option<PositionTest>
     ensures { IfSome result (λ it.
         (it.relation ≡ relation) × (part.now ≡ plan_of.Int it.number)) }
 {
@@ -101,7 +101,7 @@ pub fn position_test(plan: &Plan) -> Option<PositionTest>
 }
 
 /// `position()`, compared with a number.
-fn general_test(alloc: Global, test: PositionTest) -> Result<Plan, AllocError>
+pub fn general_test(alloc: Global, test: PositionTest) -> Result<Plan, AllocError>
     ensures { IfOk result (λ found.
         found ≡ positions.position_comparison test.relation test.number) }
 {

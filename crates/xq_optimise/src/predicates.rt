@@ -5,7 +5,6 @@ ghost use Rattle.std.specs.Prelude.{◌≡◌, ◌++◌, ◌∷◌, [], ℤ, Lis
 ghost use Rattle.std.specs.List.{AllByRecursion};
 ghost use Rattle.xq_meaning.specs.declared.plans.Plan.{Plan as PlanLem};
 ghost use Rattle.xq_meaning.specs.declared.plans.Plan.TheVariants as plan_of;
-ghost use Rattle.xq_optimise.specs.Same.{GivesSame};
 ghost use Rattle.xq_optimise.specs.Sure as sure;
 ghost use Rattle.xq_optimise.specs.declared.held.Held.{Held as Known};
 ghost use Rattle.xq_optimise.specs.private.Conjuncts.{DoesAsk, Parted, as_one};
@@ -13,7 +12,7 @@ ghost use Rattle.xq_optimise.specs.private.Parts.{AddsPredicates, IsPlainStep};
 ghost use Rattle.xq_optimise.specs.private.Positions.{TestsPosition};
 
 use crate::held::Held;
-use crate::kinds::{are_scans, gives_nodes};
+use crate::kinds::are_scans;
 use crate::lists::reversed;
 use crate::positions::position_test;
 use crate::sure::{as_comparison, is_nodes, is_slot_texts};
@@ -326,22 +325,4 @@ pub fn spliced(
         found = with_predicate(alloc, known, found, next)?;
     }
     Ok(found)
-}
-
-/// Predicates that keep the same of what a part gives.
-pub fn spliced_after(
-    alloc: Global,
-    known: &[Held],
-    start: &Plan,
-    predicates: Items<Plan>,
-) -> Result<Items<Plan>, AllocError>
-    ensures { IfOk result (λ found.
-        GivesSame known.now (plan_of.Filter start.now predicates)
-        (plan_of.Filter start.now found)) }
-{
-    if gives_nodes(known, start) {
-        spliced(alloc, known, predicates)
-    } else {
-        Ok(predicates)
-    }
 }

@@ -9,36 +9,14 @@ ghost use Rattle.xq_optimise.specs.Same.{GivesSame};
 ghost use Rattle.xq_optimise.specs.Sure.{SurelyKeeps};
 ghost use Rattle.xq_optimise.specs.private.Parts.{MovesOn};
 
+use crate::comparisons::{are_item_tests, equalities_first, have_comparison};
 use crate::held::Held;
 use crate::lists::reversed;
-use crate::predicates::is_item_test;
-use crate::sure::as_comparison;
+use crate::sure::is_equality;
 use sqlite_items::{Boxed, Items};
 use std::alloc::{AllocError, Global};
 use xq_meaning::{Plan, PlanStep, Test};
 use xq_trees::Axis;
-
-/// Whether each predicate asks the node in focus alone, and can't be refused.
-fn are_item_tests(known: &[Held], predicates: &[Plan]) -> bool
-    ensures { result ≡ true → AllByRecursion (SurelyKeeps known.now) predicates.now }
-{
-    for predicate in predicates {
-        if !is_item_test(known, predicate) {
-            return false;
-        }
-    }
-    true
-}
-
-/// Whether one of the predicates compares.
-fn have_comparison(predicates: &[Plan]) -> bool {
-    for predicate in predicates {
-        if as_comparison(predicate).is_some() {
-            return true;
-        }
-    }
-    false
-}
 
 /// Whether the last of the steps is `descendant-or-self::node()`, for which `//` stands.
 fn ends_in_double_slash(steps: &[PlanStep]) -> bool {
@@ -46,6 +24,14 @@ fn ends_in_double_slash(steps: &[PlanStep]) -> bool {
         return false;
     };
     matches!(test, Test::Any)
+}
+
+/// Whether evaluation looks at once for what passes the first predicate: an equality after `//`.
+fn is_looked_up(before: &[PlanStep], predicates: &[Plan]) -> bool {
+    let Some(first) = predicates.first() else {
+        return false;
+    };
+    ends_in_double_slash(before) && is_equality(first)
 }
 
 /// A path so far: what it starts from, and the steps that follow.
@@ -56,15 +42,11 @@ struct Taken {
 }
 
 /// Whether the predicates of a step are judged over all that the step finds: one of them compares
-/// texts, which the values that are kept may serve. After `//` evaluation looks for what passes one
-/// predicate at once, so that such a step stays.
-fn is_judged_at_once(known: &[Held], before: &[PlanStep], predicates: &[Plan]) -> bool
+/// texts, which the values that are kept may serve.
+fn is_judged_at_once(known: &[Held], predicates: &[Plan]) -> bool
     ensures { result ≡ true → AllByRecursion (SurelyKeeps known.now) predicates.now }
 {
-    if !have_comparison(predicates) || (predicates.len() == 1 && ends_in_double_slash(before)) {
-        return false;
-    }
-    are_item_tests(known, predicates)
+    have_comparison(predicates) && are_item_tests(known, predicates)
 }
 
 /// The path with a scan more, of whose nodes the predicates keep some.
@@ -87,6 +69,80 @@ fn with_tests(
     })
 }
 
+/// The path with a step that keeps its first predicate, and the others over all that it finds.
+fn with_first(
+    alloc: Global,
+    path: Taken,
+    axis: Axis,
+    test: Test,
+    first: Plan,
+    others: Items<Plan>,
+) -> Result<Taken, AllocError>
+    ensures { IfOk result (λ found. (found.steps ≡ []) × (found.start ≡ plan_of.Filter (plan_of.Path
+        path.start (path.steps ++ step_of.Each (plan_of.Step axis test (first ∷ [])) ∷ [])) others)) }
+{
+    let mut predicates = Items::new(alloc);
+    predicates.push(first)?;
+    let mut steps = path.steps;
+    steps.push(PlanStep::Each(Plan::Step(axis, test, predicates)))?;
+    let found = Plan::Path(Boxed::new(alloc, path.start)?, steps);
+    Ok(Taken {
+        start: Plan::Filter(Boxed::new(alloc, found)?, others),
+        steps: Items::new(alloc),
+    })
+}
+
+/// The path with a step after `//`, where evaluation looks for what passes one predicate at once.
+fn with_look_up(
+    alloc: Global,
+    known: &[Held],
+    path: Taken,
+    axis: Axis,
+    test: Test,
+    predicates: Items<Plan>,
+) -> Result<Taken, AllocError>
+    requires { AllByRecursion (SurelyKeeps known.now) predicates }
+    ensures { IfOk result (λ found. MovesOn known.now (step_of.Each (plan_of.Step axis test predicates))
+        path.start path.steps found.start found.steps) }
+{
+    if predicates.len() < 2 {
+        return pushed(path, PlanStep::Each(Plan::Step(axis, test, predicates)));
+    }
+    let mut left = reversed(alloc, predicates)?;
+    match left.pop() {
+        Some(first) => {
+            left.reverse();
+            with_first(alloc, path, axis, test, first, Items::from_vec(left))
+        }
+        None => pushed(
+            path,
+            PlanStep::Each(Plan::Step(axis, test, Items::new(alloc))),
+        ),
+    }
+}
+
+/// The path with a step whose predicates ask each node alone: equalities first, and after `//` the
+/// first of them with its step.
+fn with_judged(
+    alloc: Global,
+    known: &[Held],
+    path: Taken,
+    axis: Axis,
+    test: Test,
+    predicates: Items<Plan>,
+) -> Result<Taken, AllocError>
+    requires { AllByRecursion (SurelyKeeps known.now) predicates }
+    ensures { IfOk result (λ found. MovesOn known.now (step_of.Each (plan_of.Step axis test predicates))
+        path.start path.steps found.start found.steps) }
+{
+    let ordered = equalities_first(alloc, predicates)?;
+    if is_looked_up(path.steps.as_slice(), ordered.as_slice()) {
+        with_look_up(alloc, known, path, axis, test, ordered)
+    } else {
+        with_tests(alloc, path, axis, test, ordered)
+    }
+}
+
 /// The path with a part for each of its nodes.
 fn with_part(alloc: Global, known: &[Held], path: Taken, part: Plan) -> Result<Taken, AllocError>
     ensures { IfOk result (λ found.
@@ -94,8 +150,8 @@ fn with_part(alloc: Global, known: &[Held], path: Taken, part: Plan) -> Result<T
 {
     match part {
         Plan::Step(axis, test, predicates) => {
-            if is_judged_at_once(known, path.steps.as_slice(), predicates.as_slice()) {
-                return with_tests(alloc, path, axis, test, predicates);
+            if is_judged_at_once(known, predicates.as_slice()) {
+                return with_judged(alloc, known, path, axis, test, predicates);
             }
             pushed(path, PlanStep::Each(Plan::Step(axis, test, predicates)))
         }

@@ -1,7 +1,6 @@
 //! Parts that can't be refused and make no nodes, as their form tells it (XQuery 3.1, section
 //! 2.3.4).
 ghost use Rattle.std.specs.Prelude.{◌≡◌, true, IfSome};
-ghost use Rattle.std.specs.List.{AllByRecursion};
 ghost use Rattle.xq_optimise.specs.Sure.{SurelyNodes, SurelyTexts, ReadsBelow, IgnoresFocus, IsTest};
 ghost use Rattle.xq_optimise.specs.private.Kinds.{IsSlotOfOne, AreSlotTexts};
 ghost use Rattle.xq_optimise.specs.private.Parts.{general_comparison};
@@ -38,6 +37,17 @@ pub fn as_comparison(plan: &Plan) -> Option<Comparison<'_>>
         left: first.get(),
         right: second,
     })
+}
+
+/// Whether the test is a general comparison for equality.
+pub fn is_equality(test: &Plan) -> bool {
+    match as_comparison(test) {
+        Some(found) => match found.relation {
+            Relation::Equal => true,
+            _ => false,
+        },
+        None => false,
+    }
 }
 
 /// Whether the part is a slot of nodes, or scans from one.
@@ -106,16 +116,4 @@ pub fn is_test(known: &[Held], plan: &Plan) -> bool
         Some(found) => is_texts(known, found.left) && is_texts(known, found.right),
         None => is_nodes(known, plan),
     }
-}
-
-/// Whether each part is such a test.
-pub fn are_tests(known: &[Held], parts: &[Plan]) -> bool
-    ensures { result ≡ true → AllByRecursion (IsTest known.now) parts.now }
-{
-    for part in parts {
-        if !is_test(known, part) {
-            return false;
-        }
-    }
-    true
 }

@@ -5,6 +5,7 @@ ghost use Rattle.xq_optimise.specs.Same.{GivesSame};
 ghost use Rattle.xq_optimise.specs.private.FlworParts.{StandsForFlwor};
 ghost use Rattle.xq_optimise.specs.private.Parts as parts;
 
+use crate::comparisons::spliced_after;
 use crate::group_joins::with_value;
 use crate::held::Held;
 use crate::joins::with_joins;
@@ -13,7 +14,7 @@ use crate::lists::reversed;
 use crate::nested::goes_on;
 use crate::order::arranged;
 use crate::positions::with_position_first;
-use crate::predicates::{spliced, spliced_after};
+use crate::predicates::spliced;
 use crate::returns::with_return;
 use crate::scanned;
 use crate::scopes::{bind, forget};

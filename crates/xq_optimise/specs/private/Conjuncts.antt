@@ -35,7 +35,7 @@ abbrev pub put : {A : Type 0} → Bool → A → List A → List A
 put true x xs = x ∷ xs
 put false x xs = xs
 
--- the nodes that are kept, of which the first has this position
+-- the nodes that are kept, where the first has this position
 abbrev pub kept_from : (Place → ℕ → Bool) → ℕ → List Place → List Place
 kept_from truth position [] = []
 kept_from truth position (p ∷ ps) = put (truth p position) p (kept_from truth (suc position) ps)

@@ -14,7 +14,7 @@ use Rattle.xq_meaning.specs.Items.{Place, Node}
 use Rattle.xq_meaning.specs.PlanMeaning.{Frame, opened, key_mean, plan_mean}
 use Rattle.xq_optimise.specs.declared.held.Held.{Held}
 use Rattle.xq_optimise.specs.declared.held.Held.TheVariants.{Nodes}
-use Rattle.xq_optimise.specs.Sure.{on_node, SurelyKeeps}
+use Rattle.xq_optimise.specs.Sure.{on_node, SamePredicates, SurelyKeeps}
 use Rattle.xq_optimise.specs.private.Joins.{IsOutside, StepOutside, equal_plan}
 use Rattle.xq_optimise.specs.private.Parts.{IsHeld}
 
@@ -60,3 +60,7 @@ abbrev pub IsFilterGroup : ℕ → List Held → Plan → List Plan → Join →
 IsFilterGroup outer known start ps join =
     (p : Plan) × (ps ≡ p ∷ []) × IsHeld known Nodes start × IsOutside outer start
     × ComparesItems (length known) join p
+
+-- tests of the node alone that keep the same of any nodes as the others
+abbrev pub KeepsAlike : List Held → List Plan → List Plan → Type 0
+KeepsAlike known ps qs = AllByRecursion (SurelyKeeps known) qs × SamePredicates known ps qs

@@ -1,5 +1,5 @@
 -- What parts give by their form.
-use Rattle.std.specs.Prelude.{◌≡◌, ℕ, List, [], ◌∷◌, ◌++◌, Option}
+use Rattle.std.specs.Prelude.{◌≡◌, ℕ, List, [], ◌∷◌, ◌++◌}
 use Rattle.xq_atoms.specs.Text.{Text}
 use Rattle.xq_expressions.specs.declared.signatures.Function.{Function}
 use Rattle.xq_trees.specs.declared.Axis.{Axis}
@@ -8,7 +8,6 @@ use Rattle.xq_meaning.specs.declared.node_tests.Test.{Test}
 use Rattle.xq_meaning.specs.declared.plans.Plan.{Plan}
 use Rattle.xq_meaning.specs.declared.plans.Plan.TheVariants as plan
 use Rattle.xq_meaning.specs.declared.plans.PlanStep.{PlanStep}
-use Rattle.xq_meaning.specs.Functions.{Focus}
 use Rattle.xq_meaning.specs.Items.{Item}
 use Rattle.xq_meaning.specs.PlanMeaning.{Frame, plan_mean, plan_step_mean}
 use Rattle.xq_optimise.specs.declared.held.Held.{Held}

@@ -1,21 +1,17 @@
-use Rattle.std.proofs.Common.{refl, sym, subst}
+use Rattle.std.proofs.Common.{sym, subst}
 use Rattle.std.proofs.lemmas.Result.{IfOk-weaker}
-use Rattle.std.specs.List.{AllByRecursion}
 use Rattle.xq_meaning.specs.declared.plans.Plan.TheVariants as plan
 use Rattle.xq_meaning.specs.declared.plans.PlanStep.TheVariants as step
-use Rattle.xq_optimise.specs.Sure.{SurelyKeeps}
 use Rattle.xq_optimise.specs.private.Parts.{MovesOn}
-use Rattle.xq_optimise.proofs.WholePaths.{pushed_moves, judged_move}
+use Rattle.xq_optimise.proofs.WholePaths.{pushed_moves}
 use Rattle.xq_optimise.proofs.scanned.with_part.Goals as goal
 
 pub returns-then-is_judged_at_once : goal.returns-then-is_judged_at_once
 returns-then-is_judged_at_once c =
     let known = c.args.known.now in
     let path = c.args.path in
-    let all = subst (AllByRecursion (SurelyKeeps known)) c.as_slice-in-Step.ensures (c.if-is_judged_at_once.ensures refl) in
-    IfOk-weaker c.with_tests.result _ _
-    (λ found h. subst (λ p. MovesOn known (step.Each p) path.start path.steps found.start found.steps) (sym c.in-Step.is)
-    (judged_move known c.in-Step.axis c.in-Step.test c.in-Step.predicates all path.start found.start path.steps found.steps h)) c.with_tests.ensures
+    IfOk-weaker c.with_judged.result _ _
+    (λ found h. subst (λ p. MovesOn known (step.Each p) path.start path.steps found.start found.steps) (sym c.in-Step.is) h) c.with_judged.ensures
 
 pub returns-else-is_judged_at_once : goal.returns-else-is_judged_at_once
 returns-else-is_judged_at_once c =

@@ -1,7 +1,7 @@
 use Rattle.std.proofs.Common.{arith, refl}
 use Rattle.xq_optimise.specs.Sure.{SurelyKeeps}
 use Rattle.xq_optimise.proofs.Elements.{all_next, all_done}
-use Rattle.xq_optimise.proofs.scanned.are_item_tests.Goals as goal
+use Rattle.xq_optimise.proofs.comparisons.are_item_tests.Goals as goal
 
 pub loop-predicate-preserved : goal.loop-predicate-preserved
 loop-predicate-preserved c =
