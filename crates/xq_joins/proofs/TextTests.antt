@@ -160,7 +160,7 @@ context_step frame p found is forward context = record {
       ∙ ap (λ b. (Ok (turned b (map Node (turned b (axis_nodes f a of (node_at f found.node))))), f)) forward;
 }
 
--- the step and a text, of which the test is made
+-- the step and a text that make the test
 pub record AreParts (found : NodeTest) (at : ShortPath) (t : Text) : Type 0 where
   pub node : found.node ≡ at.node
   pub axis : found.test.axis ≡ at.axis

@@ -108,9 +108,9 @@ module _ (slots : Tuple ItemView) (found : TextTest) (near other : Plan) (is : I
 
   few : (f : List Tree) (q : Place) → IsTree (tree_at f q.tree) → length (led f q) ≤ 1
   few f q tree = (
-    let same : length (led f q) ≡ length (axis_nodes f axis.Attributes (test.Attribute (Some is.name)) q) = λ i. length (axis_nodes f (is.axis i) (is.test i) q) in
-    let one = lone_attribute f is.name q tree in
-    omega (arith, same, one))
+      let same : length (led f q) ≡ length (axis_nodes f axis.Attributes (test.Attribute (Some is.name)) q) = λ i. length (axis_nodes f (is.axis i) (is.test i) q) in
+      let one = lone_attribute f is.name q tree in
+      omega (arith, same, one))
 
   -- the step is the first operand, or the second
   pub value_first : (p : Plan) → p ≡ value_equality near other → IsValueTest slots found p

@@ -142,7 +142,7 @@ pub fn value_test<'a>(slots: &'a [SlotValue], predicate: &'a Plan) -> Option<Tex
     attribute_test(slots, second, first)
 }
 
-/// A test for a text, and the node of which it is asked.
+/// A test for a text, and the node that it asks.
 #[derive(Clone, Copy)]
 pub struct NodeTest<'a> {
     pub node: Node,
