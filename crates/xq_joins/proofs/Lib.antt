@@ -5,6 +5,7 @@ pub mod Meanings
 pub mod JoinKeys
 pub mod Clauses
 pub mod Found
+pub mod Kept
 pub mod TextTests
 pub mod LoneTexts
 pub mod Valued
@@ -12,3 +13,5 @@ pub mod Told
 pub mod DocumentPaths
 pub mod Keying
 pub mod Deciding
+pub mod LoneAttributes
+pub mod ValueTests

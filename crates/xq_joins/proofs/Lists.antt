@@ -52,6 +52,10 @@ if_some P R (Ok (Some x)) then' h = then' x h
 if_some P R (Ok None) then' h = tt
 if_some P R (Err e) then' h = h
 
+pub if_held : {A : Type 0} (P R : A → Type 0) (o : Option A) → ((x : A) → P x → R x) → IfSome o P → IfSome o R
+if_held P R (Some x) then' h = then' x h
+if_held P R None then' h = tt
+
 -- an element that was read
 pub element : {X : Type 0} (P : X → Type 0) (xs : List X) (i : ℕ) (x : X) → AllByRecursion P xs → i < length xs → x ≡ get_or xs i x → P x
 element P xs i x h k is = subst P (sym is) (all_index P xs i x h k)

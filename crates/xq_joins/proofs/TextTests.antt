@@ -57,7 +57,7 @@ use Rattle.xq_joins.specs.Equalities.{have_text, leads_to_text, on_nodes, at_nod
 use Rattle.xq_joins.specs.Keys.{IsNode}
 use Rattle.xq_joins.specs.private.Shapes.{equality}
 use Rattle.xq_joins.specs.private.Texts.{AreText, GivesText, IsStepAt}
-use Rattle.xq_joins.proofs.Found.{are_places}
+use Rattle.xq_joins.proofs.Kept.{kept_more, items_filtered as kept_items, scan_by_test, any_nodes, any_items, asking_keeps}
 use Rattle.xq_joins.proofs.Meeting.{texts_after, texts_before}
 
 -- # Which predicates are such tests
@@ -160,7 +160,7 @@ context_step frame p found is forward context = record {
       ∙ ap (λ b. (Ok (turned b (map Node (turned b (axis_nodes f a of (node_at f found.node))))), f)) forward;
 }
 
--- the step and a text, of which the test is made
+-- the step and a text that make the test
 pub record AreParts (found : NodeTest) (at : ShortPath) (t : Text) : Type 0 where
   pub node : found.node ≡ at.node
   pub axis : found.test.axis ≡ at.axis
@@ -199,10 +199,6 @@ module _ (frame : HeldFrame) (found : NodeTest) (at : ShortPath) (t : Text) (nea
 
 -- # What is kept
 
-kept_more : {A : Type 0} (done : List A) (x : A) (xs : List A) (b : Bool) → (done ++ Forms.kept_if x b) ++ xs ≡ done ++ cond b (x ∷ xs) xs
-kept_more done x xs true = append_assoc done (x ∷ []) xs
-kept_more done x xs false = ap (λ l. l ++ xs) (append-nil done)
-
 pub kept_next : {A : Type 0} (h : A → Bool) (x : A) (kept kept' left rest : List A) (b : Bool) → b ≡ h x → left ≡ x ∷ rest → kept' ≡ kept ++ Forms.kept_if x b → kept ++ filter h left ≡ kept' ++ filter h rest
 kept_next h x kept kept' left rest b answer e is =
     ap (λ l. kept ++ filter h l) e
@@ -210,145 +206,12 @@ kept_next h x kept kept' left rest b answer e is =
     ∙ sym (kept_more kept x (filter h rest) b)
     ∙ ap (λ l. l ++ filter h rest) (sym is)
 
-filter-flat : {A B : Type 0} (h : B → Bool) (g : A → List B) (xs : List A) → flat_map (λ x. filter h (g x)) xs ≡ filter h (flat_map g xs)
-filter-flat h g [] = refl
-filter-flat h g (x ∷ xs) = ap (λ l. filter h (g x) ++ l) (filter-flat h g xs) ∙ sym (filter-append h (g x) (flat_map g xs))
-
 module _ (f : List Tree) (slots : Tuple ItemView) (passing : Place → Bool) (p : Plan) (is : Asks f slots passing p) (frame : Frame) (env : frame.env ≡ tuple_at f slots) where
-  passed_is : (q : Place) (position last : ℕ)
-      → Forms.passed (plan_mean p) frame (record { item = Node q; position = position; last = last }) f ≡ (Ok (Forms.kept_if (Node q) (passing q)), f)
-  passed_is q position last =
-      ap (λ o. go_on o (λ v. judged (keeps position v) >>= (λ k. give (Forms.kept_if (Node q) k)))) (is.says frame q position last env)
-
-  node_kept : (q : Place) (b : Bool) → Forms.kept_if (Node q) b ≡ map Node (Forms.kept_if q b)
-  node_kept q true = refl
-  node_kept q false = refl
-
-  passed_from : (done : List Item) (i n : ℕ) (ps : List Place)
-      → in_turn (more (Forms.passed (plan_mean p) frame)) done (focuses_from i n (map Node ps)) f ≡ (Ok (done ++ map Node (filter passing ps)), f)
-  passed_from done i n [] = ap (λ l. (Ok l, f)) (sym (append-nil done))
-  passed_from done i n (q ∷ ps) =
-      let rest = focuses_from (suc i) n (map Node ps) in
-      ap (λ o. go_on (go_on o (λ ys. give (done ++ ys))) (λ next. in_turn (more (Forms.passed (plan_mean p) frame)) next rest)) (passed_is q i n)
-      ∙ passed_from (done ++ Forms.kept_if (Node q) (passing q)) (suc i) n ps
-      ∙ ap (λ l. (Ok l, f)) (kept_more done (Node q) (map Node (filter passing ps)) (passing q) ∙ ap (λ l. done ++ l) (by (passing q)))
-    where
-      by : (b : Bool) → cond b (Node q ∷ map Node (filter passing ps)) (map Node (filter passing ps)) ≡ map Node (cond b (q ∷ filter passing ps) (filter passing ps))
-      by true = refl
-      by false = refl
-
-  -- of nodes those that pass
-  pub places_filtered : (ps : List Place) → Forms.filtered frame (map Node ps) (plan_mean p) f ≡ (Ok (map Node (filter passing ps)), f)
-  places_filtered ps = passed_from [] 1 _ ps
-
-  -- of items of code that are nodes
+  -- of items of code that are nodes those that pass
   pub items_filtered : (xs : List ItemView) → AllByRecursion IsNode xs → Forms.filtered frame (items_at f xs) (plan_mean p) f ≡ (Ok (items_at f (filter (on_nodes f passing) xs)), f)
-  items_filtered xs h =
-      let ns = nodes_among xs in
-      let are = are_places xs h in
-      ap (λ l. Forms.filtered frame l (plan_mean p) f) (ap (items_at f) are ∙ items_read f ns)
-      ∙ places_filtered (map (node_at f) ns)
-      ∙ ap (λ l. (Ok l, f))
-      (ap (map Node) (filter-map passing (node_at f) ns)
-      ∙ sym (items_read f (filter (λ n. passing (node_at f n)) ns))
-      ∙ ap (items_at f) (sym (filter-map (on_nodes f passing) NodeAt ns) ∙ ap (filter (on_nodes f passing)) (sym are)))
-
-  -- # After `//`
-
-  same_is : (x y : Place) → same_node x y ≡ true → x ≡ y
-  same_is x y e =
-      let two = and_parts _ _ e in
-      let tree = eqb-true x.tree y.tree two.0 in
-      let path = (on_axis_is axis.SelfNode end x.path y.path).0 two.1 in
-      λ i. record { tree = tree i; path = path i }
-
-  one_passes : (x y : Place) (s b c : Bool) → same_node x y ≡ s → (same_node x y ≡ true → b ≡ c) → (b && s) ≡ (s && c)
-  one_passes x y true true c e same = same e
-  one_passes x y true false c e same = same e
-  one_passes x y false true c e same = refl
-  one_passes x y false false c e same = refl
-
-  some_passes : (x : Place) (ys : List Place) → list_any (λ y. passing y && same_node x y) ys ≡ (is_among ys x && passing x)
-  some_passes x [] = refl
-  some_passes x (y ∷ ys) =
-      ap (λ b. b || list_any (λ z. passing z && same_node x z) ys) (one_passes x y (same_node x y) (passing y) (passing x) refl (λ e. ap passing (sym (same_is x y e))))
-      ∙ ap (λ b. (same_node x y && passing x) || b) (some_passes x ys)
-      ∙ apart (same_node x y) (is_among ys x) (passing x)
-    where
-      apart : (s t c : Bool) → ((s && c) || (t && c)) ≡ ((s || t) && c)
-      apart true true true = refl
-      apart true true false = refl
-      apart true false true = refl
-      apart true false false = refl
-      apart false t c = refl
-
-  among_passing : (ys : List Place) (x : Place) → is_among (filter passing ys) x ≡ (is_among ys x && passing x)
-  among_passing ys x = any_filter (same_node x) passing ys ∙ some_passes x ys
-
-  filter_twice : (h : Place → Bool) (xs : List Place) → filter passing (filter h xs) ≡ filter (λ x. h x && passing x) xs
-  filter_twice h [] = refl
-  filter_twice h (x ∷ xs) = by (h x) (filter_twice h xs)
-    where
-      by : (b : Bool) → filter passing (filter h xs) ≡ filter (λ y. h y && passing y) xs → filter passing (cond b (x ∷ filter h xs) (filter h xs)) ≡ cond (b && passing x) (x ∷ filter (λ y. h y && passing y) xs) (filter (λ y. h y && passing y) xs)
-      by true e = ap (λ l. cond (passing x) (x ∷ l) l) e
-      by false e = e
-
-  ordered_passing : (ys : List Place) → in_document_order f (filter passing ys) ≡ filter passing (in_document_order f ys)
-  ordered_passing ys =
-      filter_agree (is_among (filter passing ys)) (λ x. is_among ys x && passing x) (places_from 0 f) (among_passing ys)
-      ∙ sym (filter_twice (is_among ys) (places_from 0 f))
-
-module _ (f : List Tree) (slots : Tuple ItemView) (passing : Place → Bool) (p : Plan) (is : Asks f slots passing p) (frame : Frame) (env : frame.env ≡ tuple_at f slots) (of : Test) where
-  abbrev part : Meaning
-  part = Forms.step axis.Child of (plan_mean p ∷ [])
-
-  abbrev act : Focus → Doing (List Item)
-  act focus = part (Forms.in_focus frame focus)
-
-  abbrev children : Place → List Place
-  children q = axis_nodes f axis.Child of q
-
-  abbrev chosen : Place → List Place
-  chosen q = filter passing (children q)
-
-  chosen_at : (q : Place) (i n : ℕ) → act (record { item = Node q; position = i; last = n }) f ≡ (Ok (map Node (chosen q)), f)
-  chosen_at q i n =
-      ap (λ o. go_on (go_on o (λ next. give next)) (λ ys. give (in_axis_order axis.Child ys))) (places_filtered f slots passing p is (at_node frame q i n) env (children q))
-
-  collected_from : (done : List Item) (i n : ℕ) (qs : List Place) → in_turn (more act) done (focuses_from i n (map Node qs)) f ≡ (Ok (done ++ map Node (flat_map chosen qs)), f)
-  collected_from done i n [] = ap (λ l. (Ok l, f)) (sym (append-nil done))
-  collected_from done i n (q ∷ qs) =
-      ap (λ o. go_on (go_on o (λ ys. give (done ++ ys))) (λ next. in_turn (more act) next (focuses_from (suc i) n (map Node qs)))) (chosen_at q i n)
-      ∙ collected_from (done ++ map Node (chosen q)) (suc i) n qs
-      ∙ ap (λ l. (Ok l, f)) (append_assoc done (map Node (chosen q)) (map Node (flat_map chosen qs)) ∙ ap (λ l. done ++ l) (sym (map-append Node (chosen q) (flat_map chosen qs))))
-
-  abbrev gather : List Item → Doing (List Item)
-  gather ys = on_trees (λ trees. gathered trees ys)
-
-  abbrev slash_of : List Item → Judged (List Place) → Outcome (List Item)
-  slash_of xs r = go_on (judged r f) (λ (qs : List Place). λ g. go_on (collected act (focuses xs) g) gather)
-
-  slash_is : (qs : List Place) → Forms.slash frame (map Node qs) part f ≡ (Ok (map Node (filter passing (in_document_order f (flat_map children qs)))), f)
-  slash_is qs =
-      ap (slash_of (map Node qs)) (are_nodes XPTY0019 qs)
-      ∙ ap (λ o. go_on o gather) (collected_from [] 1 (length (map Node qs)) qs)
-      ∙ ap (λ r. (nodes_or_atoms f (map Node (flat_map chosen qs)) r, f)) (are_nodes XPTY0018 (flat_map chosen qs))
-      ∙ ap (λ l. (Ok (map Node l), f)) (ap (in_document_order f) (filter-flat passing children qs) ∙ ordered_passing f slots passing p is frame env (flat_map children qs))
-
-  abbrev scanned : Axis → Test → Judged (List Place) → Outcome (List Item)
-  scanned a t r = go_on (judged r f) (λ places. on_trees (λ trees. Ok (in_order trees (flat_map (axis_nodes trees a t) places))))
-
-  abbrev then_test : Outcome (List Item) → Outcome (List Item)
-  then_test o = go_on o (λ ys. Forms.filtered frame ys (plan_mean p))
-
-  from_nodes : (r : Judged (List Place)) → go_on (scanned axis.DescendantOrSelf test.Any r) (λ ys. Forms.slash frame ys part) ≡ then_test (go_on (scanned axis.DescendantOrSelf test.Any r) (Forms.scan axis.Child of))
-  from_nodes (Err code) = refl
-  from_nodes (Ok ps) =
-      let below = selves_and_below f ps in
-      slash_is below
-      ∙ sym (ap (λ r. then_test (scanned axis.Child of r)) (are_nodes XPTY0019 below)
-      ∙ places_filtered f slots passing p is frame env (in_document_order f (flat_map children below)))
+  items_filtered xs h = kept_items f slots (λ n. Unit {0}) passing p (asking_keeps f slots passing p is) frame env xs (any_items xs h)
 
   -- a step to children with such a predicate, after `//`, is a scan, and then the test
-  pub scan_by_text : (xs : List Item) → go_on (Forms.scan axis.DescendantOrSelf test.Any xs f) (λ ys. Forms.slash frame ys part) ≡ go_on (after_double_slash of xs f) (λ ys. Forms.filtered frame ys (plan_mean p))
-  scan_by_text xs = from_nodes (all_nodes XPTY0019 xs)
+  pub scan_by_text : (of : Test) (xs : List Item)
+      → go_on (Forms.scan axis.DescendantOrSelf test.Any xs f) (λ ys. Forms.slash frame ys (Forms.step axis.Child of (plan_mean p ∷ []))) ≡ go_on (after_double_slash of xs f) (λ ys. Forms.filtered frame ys (plan_mean p))
+  scan_by_text of xs = scan_by_test f slots (λ n. Unit {0}) passing p (asking_keeps f slots passing p is) frame env of xs (any_nodes (all_nodes XPTY0019 xs))

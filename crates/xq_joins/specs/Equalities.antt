@@ -3,7 +3,7 @@ use Rattle.std.specs.Prelude.{◌≡◌, ℕ, List, map, Bool, false, Ok}
 use Rattle.std.specs.List.{list_any}
 use Rattle.xq_atoms.specs.Text.{Text, text_eq}
 use Rattle.xq_trees.specs.Items.{ItemView, Place as NodeAt, Value}
-use Rattle.xq_trees.specs.Tree.{Tree}
+use Rattle.xq_trees.specs.Tree.{Tree, IsTree}
 use Rattle.xq_trees.specs.Tuples.{Tuple}
 use Rattle.xq_meaning.specs.declared.plans.Plan.{Plan}
 use Rattle.xq_meaning.specs.Arguments.{boolean}
@@ -12,7 +12,7 @@ use Rattle.xq_meaning.specs.Items.{Place, Node}
 use Rattle.xq_meaning.specs.PlanMeaning.{Frame, plan_mean}
 use Rattle.xq_meaning.specs.Readings.{node_at}
 use Rattle.xq_meaning.specs.Steps.{axis_nodes}
-use Rattle.xq_sources.specs.Sources.{HasNode}
+use Rattle.xq_sources.specs.Sources.{tree_at, HasNode}
 use Rattle.xq_operators.specs.declared.contexts.EvalContext.{EvalContext as HeldFrame}
 use Rattle.xq_operators.specs.Views.{tuple_at, frame_at, FrameIn}
 use Rattle.xq_joins.specs.declared.equalities.NodeTest.{NodeTest}
@@ -57,6 +57,32 @@ IsTextTestIn trees slots found p = Asks trees slots (leads_to_text trees found) 
 -- the same over any trees
 abbrev pub IsTextTest : Tuple ItemView → TextTest → Plan → Type 0
 IsTextTest slots found p = (trees : List Tree) → IsTextTestIn trees slots found p
+
+-- # Of the nodes of some trees
+
+-- over these trees, where the slots hold these values, the predicate keeps a node just where it
+-- passes, and refuses and constructs nothing; its tree has one of the numbers
+pub record Keeps (trees : List Tree) (slots : Tuple ItemView) (among : ℕ → Type 0)
+    (passes : Place → Bool) (p : Plan) : Type 0 where
+  pub says : (frame : Frame) (place : Place) (position last : ℕ) → frame.env ≡ tuple_at trees slots
+      → among place.tree
+      → Forms.passed (plan_mean p) frame
+      (record { item = Node place; position = position; last = last }) trees
+      ≡ (Ok (Forms.kept_if (Node place) (passes place)), trees)
+
+-- what has this number is a tree
+abbrev pub IsTreeAt : List Tree → ℕ → Type 0
+IsTreeAt trees n = IsTree (tree_at trees n)
+
+-- over any trees, it keeps those of their nodes that pass the test
+abbrev pub IsValueTest : Tuple ItemView → TextTest → Plan → Type 0
+IsValueTest slots found p =
+    (trees : List Tree) → Keeps trees slots (IsTreeAt trees) (leads_to_text trees found) p
+
+-- the item is a node, and its tree has one of the numbers
+abbrev pub IsNodeOf : (ℕ → Type 0) → ItemView → Type 0
+IsNodeOf among (NodeAt n) = among n.tree
+IsNodeOf among (Value a) = ⊥
 
 -- # With a node at hand
 

@@ -1,5 +1,5 @@
-//! Values that are one atom, of one step from a node at hand, or of a path from a document of which
-//! only the number of nodes is asked: read where they lie, and no lists are made.
+//! Values that are one atom, of one step from a node at hand, or of a path from a document whose
+//! nodes are only counted: read where they lie, and no lists are made.
 ghost use Rattle.std.specs.Prelude.{◌≡◌, ◌∷◌, [], map, IfSome};
 ghost use Rattle.xq_meaning.specs.Arguments.{atomic};
 ghost use Rattle.xq_meaning.specs.Forms as Forms;
@@ -28,7 +28,7 @@ fn only_part(parts: &[Plan]) -> Option<&Plan>
 }
 
 /// The atom that a call of a function gives, where its only argument is one step from a node at
-/// hand, as `string($b/title)` or `count($b/author)`, or a path of which [`count_of_path`] tells.
+/// hand, as `string($b/title)` or `count($b/author)`, or a path that [`count_of_path`] knows.
 /// None where it is no such call, or gives anything but one atom: nothing was refused then.
 pub fn atom_of_call<L: RowLender>(
     alloc: Global,
@@ -59,8 +59,8 @@ pub fn atom_of_call<L: RowLender>(
 }
 
 /// The atom to which the value of a plan is atomized, where the plan is one step from a node at
-/// hand, or a call of which [`atom_of_call`] tells. None where it is neither, or where there is no
-/// atom, or more than one: nothing was refused then.
+/// hand, or a call that [`atom_of_call`] knows. None where it is neither, or where there is no atom,
+/// or more than one: nothing was refused then.
 pub fn atom_of<L: RowLender>(
     alloc: Global,
     source: &mut L,

@@ -1,6 +1,7 @@
 //! Predicates that ask whether a step from the item leads to a node with a given text (XQuery 3.1,
 //! sections 3.3.3 and 3.7.2): the texts are read where they lie, and no values are made.
-ghost use Rattle.std.specs.Prelude.{◌≡◌, [], List, map, filter, false, Ok, Some, IfOk, IfSome};
+ghost use Rattle.std.specs.Prelude.{◌≡◌, [], List, map, filter, true, false, Ok, Some, IfOk, IfSome, OnOk};
+ghost use Rattle.std.specs.List.{AllByRecursion};
 ghost use Rattle.xq_atoms.specs.Atom.{atomic_of};
 ghost use Rattle.xq_atoms.specs.Text.{text_eq};
 ghost use Rattle.xq_trees.specs.Items.{item_view, item_views};
@@ -14,11 +15,11 @@ ghost use Rattle.xq_meaning.specs.Readings.{node_at, IsIn, AreIn};
 ghost use Rattle.xq_meaning.specs.Steps.{context_node as context_node_lem, is_reverse};
 ghost use Rattle.xq_operators.specs.Views.{focus_at};
 ghost use Rattle.xq_trees.specs.Tree.{Tree};
-ghost use Rattle.xq_joins.specs.Equalities.{have_text as have_text_lem, leads_to_text as leads_to_text_lem, passes_text, IsNodeTest, IsTextTest};
+ghost use Rattle.xq_joins.specs.Equalities.{have_text as have_text_lem, leads_to_text as leads_to_text_lem, passes_text, IsNodeOf, IsNodeTest, IsTextTest, IsTreeAt, IsValueTest};
 ghost use Rattle.xq_joins.specs.Keys.{text_at};
-ghost use Rattle.xq_joins.specs.private.Texts.{IsText, AreText, GivesText, IsStepAt};
+ghost use Rattle.xq_joins.specs.private.Texts.{IsText, AreText, GivesText, IsAttributeTest, IsStepAt};
 
-use crate::shapes::operands;
+use crate::shapes::{operands, value_operands};
 use crate::values::value;
 use std::alloc::Global;
 use xq_atoms::{Atom, Want};
@@ -110,7 +111,38 @@ pub fn text_test<'a>(slots: &'a [SlotValue], predicate: &'a Plan) -> Option<Text
     Some(TextTest { axis, test, text })
 }
 
-/// A test for a text, and the node of which it is asked.
+/// The test that a step to the attributes with a name is, for the text that the other plan gives.
+/// None where they are not such a step and a text.
+fn attribute_test<'a>(
+    slots: &'a [SlotValue],
+    step: &'a Plan,
+    other: &'a Plan,
+) -> Option<TextTest<'a>>
+    ensures { IfSome result (λ found.
+        IsAttributeTest (values_of slots.now) found step.now other.now) }
+{
+    let (axis, test) = near_step(step)?;
+    let text = text_of(slots, other)?;
+    let found = TextTest { axis, test, text };
+    let _name = wanted_attribute(found)?;
+    Some(found)
+}
+
+/// The test that a predicate is for the nodes of trees, where the slots hold these values: a step
+/// to the attributes with a name and a text, in either order, compared as values. A node has one
+/// such attribute at most, so the comparison refuses none. None where it is no such test.
+pub fn value_test<'a>(slots: &'a [SlotValue], predicate: &'a Plan) -> Option<TextTest<'a>>
+    ensures { IfSome result (λ found.
+        IsValueTest (values_of slots.now) found predicate.now) }
+{
+    let (first, second) = value_operands(predicate)?;
+    if let Some(found) = attribute_test(slots, first, second) {
+        return Some(found);
+    }
+    attribute_test(slots, second, first)
+}
+
+/// A test for a text, and the node that it asks.
 #[derive(Clone, Copy)]
 pub struct NodeTest<'a> {
     pub node: Node,
@@ -171,6 +203,54 @@ pub fn node_test<'a>(frame: EvalContext<'a>, plan: &'a Plan) -> Option<NodeTest<
     let step = step_at(frame, second)?;
     let text = text_of(frame.slots, first)?;
     Some(with_text(step, text))
+}
+
+// # Whose nodes are of trees
+
+/// Fetches a row of the node's tree, where it isn't the tree with this number: then the source says
+/// that it is a tree.
+fn fetch_other_tree<L: RowLender>(
+    alloc: Global,
+    source: &mut L,
+    node: Node,
+    tree: usize,
+) -> Result<(), Want>
+    ensures is_tree { L.is_clean source.new → IsTreeAt (L.forest source.old) tree
+        → OnOk result (IsTreeAt (L.forest source.old) node.tree) }
+    ensures keeps { L.forest source.new ≡ L.forest source.old }
+    ensures was_clean { L.is_clean source.new → L.is_clean source.old }
+{
+    if node.tree == tree {
+        return Ok(());
+    }
+    source.fetch_row(alloc, node.tree, node.pre)
+}
+
+/// Whether there are items, and all are nodes of trees. A row of each tree is fetched, and of trees
+/// that stand in turn again and again, as the items do, one each time.
+pub fn are_in_trees<L: RowLender>(
+    alloc: Global,
+    source: &mut L,
+    items: &[Item],
+) -> Result<bool, Want>
+    ensures trees { L.is_clean source.new → IfOk result (λ answer. answer ≡ true
+        → AllByRecursion (IsNodeOf (IsTreeAt (L.forest source.old))) (map item_view items.now)) }
+    ensures keeps { L.forest source.new ≡ L.forest source.old }
+    ensures was_clean { L.is_clean source.new → L.is_clean source.old }
+{
+    let Some(Item::Node(first)) = items.first() else {
+        return Ok(false);
+    };
+    let mut tree = first.tree;
+    source.fetch_row(alloc, first.tree, first.pre)?;
+    for item in items {
+        let Item::Node(node) = item else {
+            return Ok(false);
+        };
+        fetch_other_tree(alloc, source, *node, tree)?;
+        tree = node.tree;
+    }
+    Ok(true)
 }
 
 // # What passes them

@@ -29,7 +29,7 @@ use xq_sources::RowLender;
 use xq_trees::{Axis, Item, Items, Node};
 use xq_tuples::SlotValue;
 
-/// A step, and the texts of which one of the nodes to which it leads must have one.
+/// A step, and the texts: a node to which the step leads must have one of them.
 #[derive(Drop)]
 pub struct KeyedTest<'a> {
     pub axis: Axis,

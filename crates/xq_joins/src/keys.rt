@@ -123,8 +123,8 @@ fn node_texts<L: RowLender>(
     join_key_texts(alloc, source, equality, key, &[Item::Node(node)])
 }
 
-/// The table that has for each text those of the nodes of which a key is this text. None where a
-/// key is no text, or may be refused.
+/// The table that has for each text the nodes with this text as a key. None where a key is no text,
+/// or may be refused.
 pub fn table_of<L: RowLender>(
     alloc: Global,
     source: &mut L,

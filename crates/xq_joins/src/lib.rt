@@ -20,7 +20,9 @@ mod values;
 
 pub use atoms::{atom_of, atom_of_call};
 pub use decisions::decided_by_key;
-pub use equalities::{NodeTest, TextTest, keep_by_text, leads_to_text, node_test, text_test};
+pub use equalities::{
+    NodeTest, TextTest, are_in_trees, keep_by_text, leads_to_text, node_test, text_test, value_test,
+};
 pub use keyed::{KeyedTest, keep_by_key, keyed_test, only_text_test};
 pub use matches::matching;
 pub use values::{are_nodes, value};

@@ -81,8 +81,8 @@ fn sides_at<'a>(join: &'a Join, outside: &[SlotValue], tuples: &Tuples) -> Optio
     sides_of(join, outside.len() + count)
 }
 
-/// The nodes of the table of which a key is one of the tuple's, in document order. None where the
-/// tuple's key is no text, or may be refused.
+/// The nodes of the table that share a key with the tuple, in document order. None where the tuple's
+/// key is no text, or may be refused.
 fn matching_at<L: RowLender>(
     alloc: Global,
     source: &mut L,
@@ -110,9 +110,9 @@ fn matching_at<L: RowLender>(
     Ok(Some(as_items(alloc, &nodes)?))
 }
 
-/// For each tuple those of the items of which a text of the key is one of the tuple's key, in their
-/// order. None where they aren't nodes in document order, each once, or where a key is no text or
-/// may be refused: nothing was judged then.
+/// For each tuple those items whose key shares a text with the tuple's key, in their order. None
+/// where they aren't nodes in document order, each once, or where a key is no text or may be
+/// refused: nothing was judged then.
 ///
 /// Each key is read once, and the nodes of a text are found in a table, so that the time grows with
 /// the items, the tuples and what is found, and not with the pairs of both.

@@ -1,4 +1,4 @@
-//! Keys that a test compares, of which one is in the slot that is bound next.
+//! Keys that a test compares: one is in the slot that is bound next.
 ghost use Rattle.std.specs.Prelude.{◌≡◌, ◌<◌, IfSome};
 ghost use Rattle.xq_joins.specs.private.Pairs.{IsTest};
 
@@ -20,8 +20,7 @@ pub struct KeyPair<'a> {
     pub tuple: Key<'a>,
 }
 
-/// The keys of a test for equality, in either order, of which one is in the slot that is bound
-/// next.
+/// The keys of a test for equality, in either order: one is in the slot that is bound next.
 pub fn keys_of(test: &Plan, next: usize) -> Option<KeyPair<'_>>
     ensures test { IfSome result (λ pair. IsTest pair test.now) }
     ensures next { IfSome result (λ pair. pair.item.slot ≡ next) }

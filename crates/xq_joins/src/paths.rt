@@ -1,5 +1,5 @@
-//! Paths of scans from a document, of which only the number of nodes is asked: their places in its
-//! tree are enough, and no items are made (XQuery 3.1, section 3.3).
+//! Paths of scans from a document whose nodes are only counted: their places in its tree are enough,
+//! and no items are made (XQuery 3.1, section 3.3).
 ghost use Rattle.std.specs.Prelude.{◌≡◌, ◌*◌, ◌≤◌, ℕ, ◌∷◌, [], IfSome};
 ghost use Rattle.xq_meaning.specs.declared.plans.Plan.TheVariants as plan_of;
 ghost use Rattle.xq_meaning.specs.Arguments.{atomic};

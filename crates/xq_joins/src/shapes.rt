@@ -2,7 +2,7 @@
 ghost use Rattle.std.specs.Prelude.{◌≡◌, true, IfSome};
 ghost use Rattle.std.specs.List.{AllByRecursion};
 ghost use Rattle.xq_meaning.specs.declared.plans.Plan.TheVariants as plan_of;
-ghost use Rattle.xq_joins.specs.private.Shapes.{IsKey, IsScan, equality as equality_lem};
+ghost use Rattle.xq_joins.specs.private.Shapes.{IsKey, IsScan, comparison as comparison_lem, equality as equality_lem, value_equality as value_equality_lem};
 
 use crate::pairs::Key;
 use xq_expressions::{ComparisonOperator, Relation};
@@ -48,9 +48,10 @@ pub fn key_of(plan: &Plan) -> Option<Key<'_>>
     }
 }
 
-/// The operands of a general comparison for equality.
-pub fn operands(plan: &Plan) -> Option<(&Plan, &Plan)>
-    ensures { IfSome result (λ pair. plan.now ≡ equality_lem pair.0.now pair.1.now) }
+/// The operands of a comparison, and its operator between them.
+fn comparison(plan: &Plan) -> Option<(&Plan, ComparisonOperator, &Plan)>
+    ensures { IfSome result (λ found.
+        plan.now ≡ comparison_lem found.1 found.0.now found.2.now) }
 {
     let Plan::Chain(first, rest) = plan else {
         return None;
@@ -63,11 +64,33 @@ pub fn operands(plan: &Plan) -> Option<(&Plan, &Plan)>
     let Operator::Comparison(comparison) = operator else {
         return None;
     };
+    Some((first.get(), *comparison, second))
+}
+
+/// The operands of a general comparison for equality.
+pub fn operands(plan: &Plan) -> Option<(&Plan, &Plan)>
+    ensures { IfSome result (λ pair. plan.now ≡ equality_lem pair.0.now pair.1.now) }
+{
+    let (first, comparison, second) = comparison(plan)?;
     let ComparisonOperator::General(relation) = comparison else {
         return None;
     };
     let Relation::Equal = relation else {
         return None;
     };
-    Some((first.get(), second))
+    Some((first, second))
+}
+
+/// The operands of a value comparison for equality.
+pub fn value_operands(plan: &Plan) -> Option<(&Plan, &Plan)>
+    ensures { IfSome result (λ pair. plan.now ≡ value_equality_lem pair.0.now pair.1.now) }
+{
+    let (first, comparison, second) = comparison(plan)?;
+    let ComparisonOperator::Value(relation) = comparison else {
+        return None;
+    };
+    let Relation::Equal = relation else {
+        return None;
+    };
+    Some((first, second))
 }

@@ -21,14 +21,14 @@ nodes_with table text = option_map_or (λ nodes. nodes.items) (get_by_text table
 abbrev pub has_key : List Tree → JoinKey → Text → Node → Bool
 has_key trees key text node = list_any (text_eq text) (join_texts trees key (Place node ∷ []))
 
--- the table has for each text those of the nodes of which a key is this text; their keys are texts
+-- the table has for each text the nodes with this text as a key; their keys are texts
 pub record IsTable {S : Type 0} (equality : Equality) (trees : List Tree) (key : JoinKey)
     (nodes : List Node) (table : HashMap (String Global) (Vec Node) S) : Type 0 where
   pub found : (text : Text) (p : Node → Bool) → list_any p (nodes_with table text)
       ≡ list_any (λ node. p node && has_key trees key text node) nodes
   pub told : AllByRecursion (λ node. IsTold equality trees key (Place node ∷ [])) nodes
 
--- of these items those of which a text of the key is one of the other key's
+-- those items whose key shares a text with the other key
 abbrev pub matched : List Tree → JoinKey → JoinKey → List ItemView → List ItemView → List ItemView
 matched trees item key ys xs =
     filter (λ x. meet (join_texts trees item (x ∷ [])) (join_texts trees key ys)) xs

@@ -5,7 +5,7 @@ use Rattle.xq_meaning.specs.Readings.{AreIn}
 use Rattle.xq_joins.specs.Keyed.{passes_key}
 use Rattle.xq_joins.proofs.keyed.keep_by_key.Given as goal
 
--- those that were kept, and what is to be kept of the items that are left
+-- those that were kept, and what the test keeps of the items that are left
 abbrev pub invariant-loop-item : goal.invariant-loop-item
 invariant-loop-item g l =
     let old = g.L.TreeSource.forest l.fn.source in
