@@ -1,6 +1,6 @@
 //! Predicates that ask nodes for a text, or for those of a key, of which each reads without making
 //! values.
-ghost use Rattle.std.specs.Prelude.{◌≡◌, map, IfOk, IfSome, None, Ok};
+ghost use Rattle.std.specs.Prelude.{◌≡◌, ◌∷◌, [], map, IfOk, IfSome, None, Ok};
 ghost use Rattle.std.specs.List.{AllByRecursion};
 ghost use Rattle.xq_trees.specs.Items.{ItemView, item_view};
 ghost use Rattle.xq_trees.specs.Tuples.{Tuple};
@@ -13,7 +13,7 @@ ghost use Rattle.xq_meaning.specs.Forms as Forms;
 ghost use Rattle.xq_meaning.specs.PlanMeaning.{Frame as Meant, plan_mean, plan_step_mean};
 ghost use Rattle.xq_meaning.specs.Readings.{items_at, AreIn};
 ghost use Rattle.xq_operators.specs.Views.{after_double_slash, frame_at, tuple_at, FrameIn, TupleIn, Goes, GivesSequence};
-ghost use Rattle.xq_joins.specs.Equalities.{IsTextTest, IsTextTestIn};
+ghost use Rattle.xq_joins.specs.Equalities.{IsNodeOf, IsTextTest, IsTextTestIn, IsTreeAt, IsValueTest};
 ghost use Rattle.xq_joins.specs.Keyed.{IsKeyedTest};
 ghost use Rattle.xq_joins.specs.Keys.{IsNode};
 ghost use Rattle.xq_eval.specs.private.Texts.{GivesFound};
@@ -21,13 +21,14 @@ ghost use Rattle.xq_eval.specs.private.Texts.{GivesFound};
 use std::alloc::Global;
 use xq_atoms::{Fault, Want};
 use xq_joins::{
-    KeyedTest, TextTest, are_nodes, keep_by_key, keep_by_text, keyed_test, only_text_test,
-    text_test,
+    KeyedTest, TextTest, are_in_trees, are_nodes, keep_by_key, keep_by_text, keyed_test,
+    only_text_test, text_test, value_test,
 };
 use xq_meaning::{Plan, Test};
 use xq_operators::{EvalContext, double_slash};
 use xq_sources::TreeStore;
 use xq_trees::{Axis, Item, Items};
+use xq_tuples::SlotValue;
 
 /// The test for a text that the predicate is, where all items are nodes: it refuses none of them.
 fn text_test_at<'a>(
@@ -41,6 +42,53 @@ fn text_test_at<'a>(
 {
     let test = text_test(frame.slots, predicate)?;
     if are_nodes(items) { Some(test) } else { None }
+}
+
+/// The test that the predicate is for nodes of trees, where all items are such: it refuses none of
+/// them.
+fn value_test_at<'a, W: TreeStore>(
+    alloc: Global,
+    world: &mut W,
+    slots: &'a [SlotValue],
+    predicate: &'a Plan,
+    items: &[Item],
+) -> Result<Option<TextTest<'a>>, Want>
+    ensures test { IfOk result (λ found. IfSome found (λ test.
+        IsValueTest (values_of slots.now) test predicate.now)) }
+    ensures trees { W.is_clean world.new → IfOk result (λ found. IfSome found (λ _.
+        AllByRecursion (IsNodeOf (IsTreeAt (W.forest world.old))) (map item_view items.now))) }
+    ensures keeps { W.forest world.new ≡ W.forest world.old }
+    ensures was_clean { W.is_clean world.new → W.is_clean world.old }
+{
+    let Some(test) = value_test(slots, predicate) else {
+        return Ok(None);
+    };
+    let are_nodes = are_in_trees(alloc, world, items)?;
+    if are_nodes { Ok(Some(test)) } else { Ok(None) }
+}
+
+/// The items that a predicate keeps which compares an attribute with a text as values, where all
+/// items are nodes of trees. None where it is no such predicate, or where it may refuse an item.
+fn keep_by_value<W: TreeStore>(
+    alloc: Global,
+    world: &mut W,
+    frame: EvalContext<'_>,
+    items: &[Item],
+    predicate: &Plan,
+) -> Result<Option<Items>, Want>
+    ensures gives { W.is_clean world.new → FrameIn (W.forest world.old) frame.entry
+        → AreIn (W.forest world.old) (map item_view items.now)
+        → IfOk result (λ found. IfSome found (λ kept. GivesSequence (Forms.filtered
+        (frame_at (W.forest world.old) frame.entry) (items_at (W.forest world.old) (map item_view
+        items.now)) (plan_mean predicate.now) (W.forest world.old)) (W.forest world.new)
+        (Ok kept))) }
+    ensures keeps { W.forest world.new ≡ W.forest world.old }
+    ensures was_clean { W.is_clean world.new → W.is_clean world.old }
+{
+    let Some(test) = value_test_at(alloc, world, frame.slots, predicate, items)? else {
+        return Ok(None);
+    };
+    Ok(Some(keep_by_text(alloc, world, items, test)?))
 }
 
 /// The items that a predicate keeps which asks nodes for a text, or for those of a key: they are
@@ -65,7 +113,7 @@ pub fn keep_by_texts<W: TreeStore>(
         return Ok(Some(keep_by_text(alloc, world, items, test)?));
     }
     let Some(test) = keyed_test(alloc, world, frame.slots, items, predicate)? else {
-        return Ok(None);
+        return keep_by_value(alloc, world, frame, items, predicate);
     };
     Ok(Some(keep_by_key(alloc, world, items, &test)?))
 }
@@ -90,6 +138,14 @@ fn double_slash_by_text<W: TreeStore>(
     ensures gives { W.is_clean world.new → AreIn (W.forest world.old) (map item_view items.now)
         → (slots : Tuple ItemView) (p : PlanLem) (frame : Meant)
         → IsTextTestIn (W.forest world.old) slots step.entry.predicate p
+        → frame.env ≡ tuple_at (W.forest world.old) slots
+        → GivesSequence (go_on (after_double_slash step.entry.test.now
+        (items_at (W.forest world.old) (map item_view items.now)) (W.forest world.old))
+        (λ xs. Forms.filtered frame xs (plan_mean p))) (W.forest world.new) result }
+    ensures in_trees { W.is_clean world.new → AreIn (W.forest world.old) (map item_view items.now)
+        → AllByRecursion (IsNodeOf (IsTreeAt (W.forest world.old))) (map item_view items.now)
+        → (slots : Tuple ItemView) (p : PlanLem) (frame : Meant)
+        → IsValueTest slots step.entry.predicate p
         → frame.env ≡ tuple_at (W.forest world.old) slots
         → GivesSequence (go_on (after_double_slash step.entry.test.now
         (items_at (W.forest world.old) (map item_view items.now)) (W.forest world.old))
@@ -135,6 +191,44 @@ pub struct ChosenChildren<'a> {
     pub predicates: &'a [Plan],
 }
 
+/// A step to children, and its only predicate.
+#[derive(Clone, Copy)]
+pub struct ChosenChild<'a> {
+    pub test: &'a Test,
+    pub predicate: &'a Plan,
+}
+
+/// What `//` and then those children lead to from all items, which are nodes of trees, where their
+/// predicate compares an attribute with a text as values. None where it is no such predicate.
+fn below_by_value<W: TreeStore>(
+    alloc: Global,
+    world: &mut W,
+    frame: EvalContext<'_>,
+    items: &[Item],
+    step: ChosenChild<'_>,
+) -> Result<Option<Items>, Fault>
+    ensures goes { Goes (W.forest world.old) (W.forest world.new) (W.is_clean world.old)
+        (W.is_clean world.new) }
+    ensures keeps { IfOk result (λ found. found ≡ None
+        → W.forest world.new ≡ W.forest world.old) }
+    ensures gives { W.is_clean world.new → AreIn (W.forest world.old) (map item_view items.now)
+        → (meant : Meant)
+        → meant.env ≡ tuple_at (W.forest world.old) (values_of frame.entry.slots.now)
+        → GivesFound (go_on (Forms.scan Axis.DescendantOrSelf Test.Any (items_at
+        (W.forest world.old) (map item_view items.now)) (W.forest world.old)) (λ xs. plan_step_mean
+        (plan_step.Each (plan_of.Step Axis.Child step.entry.test.now
+        (step.entry.predicate.now ∷ []))) meant xs)) (W.forest world.new) result }
+{
+    let Some(predicate) = value_test_at(alloc, world, frame.slots, step.predicate, items)? else {
+        return Ok(None);
+    };
+    let test = TextStep {
+        test: step.test,
+        predicate,
+    };
+    Ok(Some(double_slash_by_text(alloc, world, items, test)?))
+}
+
 /// What `//` and then those children lead to from all items, where their only predicate asks for a
 /// text or for those of a key. None where it is no such predicate.
 pub fn below_by_texts<W: TreeStore>(
@@ -168,7 +262,11 @@ pub fn below_by_texts<W: TreeStore>(
         return Ok(Some(double_slash_by_text(alloc, world, items, step)?));
     }
     let Some(test) = keyed_test(alloc, world, frame.slots, items, predicate)? else {
-        return Ok(None);
+        let child = ChosenChild {
+            test: chosen.test,
+            predicate,
+        };
+        return below_by_value(alloc, world, frame, items, child);
     };
     let kept = double_slash_by_key(alloc, world, items, chosen.test, &test)?;
     Ok(Some(kept))

@@ -4,6 +4,7 @@ use Rattle.xq_trees.specs.declared.Axis.TheVariants.{Child, DescendantOrSelf}
 use Rattle.xq_meaning.specs.declared.node_tests.Test.TheVariants.{Any}
 use Rattle.xq_trees.specs.Items.{item_view}
 use Rattle.xq_trees.specs.Tree.{Tree}
+use Rattle.xq_meaning.specs.declared.plans.Plan.{Plan}
 use Rattle.xq_meaning.specs.declared.plans.Plan.TheVariants as plan
 use Rattle.xq_meaning.specs.declared.plans.PlanStep.TheVariants as plan_step
 use Rattle.xq_tuples.specs.Views.{values_of}
@@ -17,6 +18,7 @@ use Rattle.xq_operators.proofs.Growth.{goes_on_to}
 use Rattle.xq_joins.specs.Equalities.{leads_to_text}
 use Rattle.xq_joins.specs.declared.keyed.KeyedTest.{KeyedTest}
 use Rattle.xq_joins.specs.Keyed.{leads_to_key, IsKeyedTest}
+use Rattle.xq_eval.specs.private.Texts.{GivesFound}
 use Rattle.xq_eval.proofs.Steps.{same_goes}
 use Rattle.xq_eval.proofs.TextSteps.{text_step_is, found_stop, only_one}
 use Rattle.xq_eval.proofs.texts.below_by_texts.Goals as goal
@@ -101,3 +103,17 @@ returns-clause-goes g c = goes_on_to (same_goes c.keyed_test.ensures.keeps c.key
 
 pub returns-in_err-kept-clause-goes : goal.returns-in_err-kept-clause-goes
 returns-in_err-kept-clause-goes g c = goes_on_to (same_goes c.keyed_test.ensures.keeps c.keyed_test.ensures.was_clean) c.double_slash_by_key.ensures.goes
+
+pub returns-in_default-2-clause-gives : goal.returns-in_default-2-clause-gives
+returns-in_default-2-clause-gives g c = λ clean within items_in meant env.
+    let f' = g.W.TreeSource.forest c.below_by_value.new.world in
+    let slots = values_of c.args.frame.slots.now in
+    let predicates = c.args.chosen.predicates.now in
+    let p = c.predicate-item.result in
+    let of = c.args.chosen.test.now in
+    let views = map item_view c.args.items.now in
+    let one : predicates ≡ p ∷ [] = only_one predicates p c.predicate-item.is (omega (arith, c.in-len1.len_at_least)) (omega (arith, c.in-len1.len_below)) in
+    let outcome = λ (h : List Tree) (ps : List Plan). go_on (Forms.scan DescendantOrSelf Any (items_at h views) h) (λ ys. plan_step_mean (plan_step.Each (plan.Step Child of ps)) meant ys) in
+    let given = subst (λ (h : List Tree). AreIn h views → meant.env ≡ tuple_at h slots → GivesFound (outcome h (p ∷ [])) f' c.below_by_value.result) c.keyed_test.ensures.keeps
+    (λ a b. c.below_by_value.ensures.gives clean a meant b) items_in env in
+    subst (λ (ps : List Plan). GivesFound (outcome (g.W.TreeSource.forest c.args.world.now) ps) f' c.below_by_value.result) (sym one) given

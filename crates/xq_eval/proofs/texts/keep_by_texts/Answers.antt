@@ -1,11 +1,13 @@
-use Rattle.std.proofs.Common.{◌≡◌, ◌∙◌, refl, subst, map, List}
-use Rattle.std.specs.Prelude.{filter, IfSome}
+use Rattle.std.proofs.Common.{◌≡◌, ◌∙◌, refl, subst, map, List, Ok}
+use Rattle.std.specs.Prelude.{filter, IfOk, IfSome}
 use Rattle.std.specs.List.{AllByRecursion}
 use Rattle.xq_trees.specs.Items.{item_view, item_views}
 use Rattle.xq_trees.specs.Tree.{Tree}
 use Rattle.xq_tuples.specs.Views.{values_of}
-use Rattle.xq_meaning.specs.Readings.{AreIn}
-use Rattle.xq_operators.specs.Views.{frame_at}
+use Rattle.xq_meaning.specs.Forms as Forms
+use Rattle.xq_meaning.specs.PlanMeaning.{plan_mean}
+use Rattle.xq_meaning.specs.Readings.{items_at, AreIn}
+use Rattle.xq_operators.specs.Views.{frame_at, FrameIn, GivesSequence}
 use Rattle.xq_joins.specs.Equalities.{leads_to_text}
 use Rattle.xq_joins.specs.declared.keyed.KeyedTest.{KeyedTest}
 use Rattle.xq_joins.specs.Keys.{IsNode}
@@ -37,3 +39,12 @@ returns-clause-gives g c = λ clean inside items_in.
     let nodes : AllByRecursion IsNode xs = subst (λ r. IfSome r (λ (t : KeyedTest). AllByRecursion IsNode xs)) c.in-Some-2.is c.in_ok-test.ensures.nodes in
     let are : kept ≡ filter (passes_key f test) xs = subst (λ (h : List Tree). AreIn h xs → kept ≡ filter (passes_key h test) xs) same (λ xs_in. c.in_ok-keep_by_key.ensures.kept clean xs_in) items_in in
     texts_kept f slots (leads_to_key f test) p is (frame_at f held) refl f2 xs kept nodes items_in are (c.keep_by_key.ensures.keeps ∙ same)
+
+pub returns-in_default-2-clause-gives : goal.returns-in_default-2-clause-gives
+returns-in_default-2-clause-gives g c = λ clean inside items_in.
+    let f2 = g.W.TreeSource.forest c.keep_by_value.new.world in
+    let held = c.args.frame in
+    let p = c.args.predicate.now in
+    let xs = map item_view c.args.items.now in
+    subst (λ (h : List Tree). FrameIn h held → AreIn h xs → IfOk c.keep_by_value.result (λ found. IfSome found (λ kept. GivesSequence (Forms.filtered (frame_at h held) (items_at h xs) (plan_mean p) h) f2 (Ok kept)))) c.keyed_test.ensures.keeps
+    (λ a b. c.keep_by_value.ensures.gives clean a b) inside items_in
