@@ -136,7 +136,7 @@ pub first_is : (ps : List Plan) (p : Plan) → true ≡ ltb 0 (length ps) → p 
 first_is [] p some is = absurd (cc)
 first_is (q ∷ qs) p some is = ap (λ r. r ∷ qs) (sym is)
 
--- after what gives items, of which the first suffice
+-- after what gives items, where the first suffice
 pub keeps_first : (predicates : List Plan) (most : ℕ) (frame : Frame) (all : Outcome (List Item)) → Suffices predicates most → go_on (go_on all (λ xs. give (take most xs))) (chosen predicates frame) ≡ go_on all (chosen predicates frame)
 keeps_first predicates most frame (Ok xs, trees) enough = enough frame xs trees
 keeps_first predicates most frame (Err code, trees) enough = refl

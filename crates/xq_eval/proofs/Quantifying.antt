@@ -156,7 +156,7 @@ turn_lighter width (suc m) xs h = mul-lt-mul_of_pos_right {m = length xs} {n = w
 pub turn_weigh : (width n : ℕ) (es : Tuple ItemView) (xs : List ItemView) → length es ≤ n → length xs < width → weigh width (some_weigh width xs) n es < weigh width (all_weigh width) n es
 turn_weigh width n es xs h k = weigh_less width (some_weigh width xs) (all_weigh width) n (n - length es) es (omega arith) (turn_lighter width (n - length es) xs k)
 
--- where nothing is to be tried, a variable is taken off before another moves
+-- where nothing is left to try, a variable is taken off before another moves
 pub falls_shorter : (stack : Tuple ItemView) (items : List ItemView) (below : Tuple ItemView) (left : List ItemView) → Falls stack items below left → (length below ≤ length stack) × (items ≡ [] → 0 < length left → length below < length stack)
 falls_shorter stack items below left stays = (omega arith, λ none some. absurd (let e = ap length none in omega arith))
 falls_shorter stack items below left (falls es e before) =

@@ -230,7 +230,7 @@ pub step_is : (axis : Axis) (test : Test) (predicates : List Meaning) (frame : F
 step_is axis test predicates frame f =
     sym (then_after (judged (context_node frame.focus) f) (λ p. on_trees (λ trees. Ok (map Node (in_axis_order axis (axis_nodes trees axis test p))))) (λ xs. in_turn (Forms.filtered frame) xs predicates >>= (λ ys. give (in_axis_order axis ys))))
 
--- a step, from nodes of which its predicates keep the same as of all on its axis
+-- a step, from nodes where its predicates keep the same as from all on its axis
 pub step_from : (axis : Axis) (test : Test) (predicates : List Meaning) (frame : Frame) (f : List Tree) (o : Outcome (List Item))
     → go_on o (λ xs. in_turn (Forms.filtered frame) xs predicates) ≡ go_on (on_axis axis test frame.focus f) (λ xs. in_turn (Forms.filtered frame) xs predicates)
     → Forms.step axis test predicates frame f ≡ go_on o (λ xs. in_turn (Forms.filtered frame) xs predicates >>= (λ ys. give (in_axis_order axis ys)))

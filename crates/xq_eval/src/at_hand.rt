@@ -1,4 +1,4 @@
-//! Plans that give one atom which is at hand, of which no list is made (XQuery 3.1, sections 3.1,
+//! Plans that give one atom which is at hand, so that no list is made (XQuery 3.1, sections 3.1,
 //! 3.2.1 and 3.5).
 ghost use Rattle.std.specs.Prelude.{◌≡◌, ◌+◌, ◌<◌, ◌∷◌, [], List, map, true, Ok, IfOk, IfSome};
 ghost use Rattle.std.specs.List.{AllByRecursion};

@@ -82,7 +82,7 @@ fn calculated(operator: Operator, left: i64, right: i64) -> Option<i64>
 }
 
 /// The integer that a plan gives, where it is a literal, a variable that is one integer, or
-/// arithmetic on such of which each result is an integer; none where it is something else, or is
+/// arithmetic on such where each result is an integer; none where it is something else, or is
 /// refused.
 #[cycle(integers)]
 pub fn integer_of(slots: &[SlotValue], plan: &Plan) -> Option<i64>

@@ -26,7 +26,7 @@ use xq_tuples::SlotValue;
 /// Whether the test has the wanted truth for some values of the variables, those of the later ones
 /// for each of the earlier ones; nothing is evaluated after the first that have.
 ///
-/// The stack has the variables that have a value, of which each is in a slot of its own.
+/// The stack has the variables that have a value, each in a slot of its own.
 #[cycle(eval)]
 pub fn satisfied<W: TreeStore>(
     alloc: Global,

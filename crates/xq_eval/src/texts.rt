@@ -1,5 +1,4 @@
-//! Predicates that ask nodes for a text, or for those of a key, of which each reads without making
-//! values.
+//! Predicates that ask nodes for a text, or for those of a key: each reads without making values.
 ghost use Rattle.std.specs.Prelude.{◌≡◌, ◌∷◌, [], map, IfOk, IfSome, None, Ok};
 ghost use Rattle.std.specs.List.{AllByRecursion};
 ghost use Rattle.xq_trees.specs.Items.{ItemView, item_view};

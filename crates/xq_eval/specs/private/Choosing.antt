@@ -27,7 +27,7 @@ abbrev pub LastSuffices : List Plan → Type 0
 LastSuffices predicates = (frame : Frame) (xs : List Item) (trees : List Tree)
     → chosen predicates frame (drop (length xs - 1) xs) trees ≡ chosen predicates frame xs trees
 
--- the result is of some nodes of which the predicates keep the same as of all on the axis
+-- the result is that of some nodes: the predicates keep the same of them as of all on the axis
 pub record Chooses (axis : Axis) (test : Test) (predicates : List Plan) (frame : Frame)
     (old new : List Tree) (result : Result (Vec Held) Fault) : Type 0 where
   pub outcome : Outcome (List Item)
