@@ -25,7 +25,10 @@ PREDICATES = ("", "", "[1]", "[2]", "[last()]", "[position() <= 2]", "[position(
               "[count(.//{0}) > 1]", "[position() eq 2]", "[3 > position()]", "[2 le position()]",
               "[position() = 2 and {0}]", "[{0} and position() != 1]", '[@id = "1" and {0}]',
               "[position() >= 2 and position() <= 4]", '[@id = "2"][{0} = "x"]', '["3" != @id]',
-              '[. = "x"]', '[@id < "3" and 2 < position()]', "[@id = 1]", '[@id = "1"][2]')
+              '[. = "x"]', '[@id < "3" and 2 < position()]', "[@id = 1]", '[@id = "1"][2]',
+              '[@id eq "1"]', '["2" eq @id]', "[@id eq 1]", '[{0}][@id = "1"]', "[last() - 1]",
+              '[{0} eq "x"]', "[position() < last()]", "[position() = last() - 1]",
+              '[{0} and @id = "2" and . != "x"]', "[last() idiv 2]", "[position() > last() - 3]")
 QUERIES = (
     "{path}", "{path}", "{path}", "count({path})", "({path})[{number}]//{name}",
     "for $x in {path} return count($x//{name})",
@@ -36,6 +39,13 @@ QUERIES = (
     'for $x in doc("d")//{other} group by $g := count($x//{name}) return ($g, count($x))',
     "some $x in {path} satisfies $x//{name}",
     'doc("d")//{name}[@id = "{number}"]',
+    'doc("d")//{name}[{other}][@id eq "{number}"]',
+    "for $x at $i in {path} where $i <= {number} return (string($x), $i)",
+    "for $x at $i in {path} where {number} gt $i and $x/@id return string($x)",
+    'for $x in {path} where $x/@id != "x" and xs:integer($x/@id) > {number} return string($x)',
+    "let $l := {path} return for $i in 0 to 4 return string($l[$i])",
+    "let $l := {path}, $n := {number} return count($l[position() >= $n])",
+    'let $l := doc("d")//{name} return count($l[{other}][@id eq "{number}"])',
     'for $k in ({path})[position() <= 9] return count(doc("d")//{name}[@id = $k/@id])',
     'let $k := {path} return count(doc("d")//{other}[$k/{name} = {name}])',
     'string-join({path}/string(), "|")',
