@@ -7,6 +7,7 @@ pub mod Quantifying
 pub mod QuantifiedTurns
 pub mod Steps
 pub mod PositionalPredicates
+pub mod Spans
 pub mod DocumentScans
 pub mod FirstScans
 pub mod TextSteps

@@ -336,7 +336,7 @@ fn keep<W: TreeStore>(
         (W.forest world.old) (map item_view items.now)) (plan_mean predicate.now)
         (W.forest world.old)) (W.forest world.new) result }
 {
-    if let Some(value) = positional(alloc, predicate, items)? {
+    if let Some(value) = positional(frame.slots, predicate, items) {
         return keep_positional(alloc, items, &value);
     }
     if let Ok(Some(number)) = number_of(frame.slots, predicate) {

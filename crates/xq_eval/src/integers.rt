@@ -70,7 +70,7 @@ fn product_of(operator: ProductOperator, left: i64, right: i64) -> Option<i64>
 
 /// What an operator gives from two integers, where that is an integer.
 #[inline]
-fn calculated(operator: Operator, left: i64, right: i64) -> Option<i64>
+pub fn calculated(operator: Operator, left: i64, right: i64) -> Option<i64>
     ensures { IfSome result (λ n. (trees : List Tree) → Operators.operated operator trees
         (atomic (Integer left)) (atomic (Integer right)) ≡ Ok (atomic (Integer n))) }
 {

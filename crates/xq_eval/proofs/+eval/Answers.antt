@@ -4038,9 +4038,9 @@ evaluation::keep-returns-in-Some-clause-gives g t c = λ clean inside items_in.
     let f = g.W.TreeSource.forest c.args.world.now in
     let p = c.args.predicate.now in
     let items = c.args.items.now in
-    let told = subst (λ r. IfSome r (λ (v : ByPosition). IsPositional p (length items) v)) c.in-Some.is c.in_ok-value.ensures in
+    let told = subst (λ r. IfSome r (λ (v : ByPosition). IsPositional c.args.frame.slots.now p (length items) v)) c.in-Some.is c.positional.ensures in
     let frame = frame_at f c.args.frame in
-    c.keep_positional.ensures f frame p (record { value_is = told.value_is f frame }) items_in
+    c.keep_positional.ensures f frame p (told f frame refl) items_in
 
 pub evaluation::keep-returns-in-Ok-Some-clause-gives : goal.evaluation::keep-returns-in-Ok-Some-clause-gives
 evaluation::keep-returns-in-Ok-Some-clause-gives g t c = λ clean inside items_in.
@@ -4084,9 +4084,6 @@ evaluation::keep-loop-index-init g t c =
 
 pub evaluation::keep-returns-in-Some-clause-goes : goal.evaluation::keep-returns-in-Some-clause-goes
 evaluation::keep-returns-in-Some-clause-goes g t c = stays _ _
-
-pub evaluation::keep-returns-in_err-value-clause-goes : goal.evaluation::keep-returns-in_err-value-clause-goes
-evaluation::keep-returns-in_err-value-clause-goes g t c = stays _ _
 
 pub clauses::clause_list-loop-clause-preserved : goal.clauses::clause_list-loop-clause-preserved
 clauses::clause_list-loop-clause-preserved g t c =

@@ -8,7 +8,7 @@ use Rattle.xq_meaning.specs.PlanMeaning.{Frame, plan_mean}
 use Rattle.xq_meaning.specs.Readings.{items_at, AreIn}
 use Rattle.xq_meaning.specs.Steps.{focuses_from}
 use Rattle.xq_eval.specs.private.Positions.{IsPositionalIn}
-use Rattle.xq_eval.proofs.positions.keep_positional.Given as goal
+use Rattle.xq_eval.proofs.positions.keep_each.Given as goal
 
 abbrev pub invariant-loop-index : goal.invariant-loop-index
 invariant-loop-index l =
