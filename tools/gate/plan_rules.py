@@ -294,6 +294,12 @@ def bound_of(test: Form) -> tuple[str, tuple[str, ...]] | None:
     return None if found is None else (found[0], found[1].words)
 
 
+def tests_of(clauses: Iterable[Form]) -> Iterator[Form]:
+    """The tests of each `where`, the conjuncts of one by themselves."""
+    for test in (it.parts[0] for it in clauses if it.word == "where"):
+        yield from test.parts if test.word == "and" else (test,)
+
+
 def narrowed_out(clause: Form, olds: Sequence[Form]) -> tuple[Form, ...]:
     """The `for` and the `where` that a `for` over a filter stands for, or the clause itself."""
     range_ = clause.parts[0] if clause.word == "for" else clause
@@ -303,14 +309,15 @@ def narrowed_out(clause: Form, olds: Sequence[Form]) -> tuple[Form, ...]:
     left = Form("filter", (), (start, *others)) if others else start
     if "at" in clause.words:
         bound = bound_of(range_.parts[-1])
-        tests = [it for it in olds if it.word == "where" and bound_of(it.parts[0]) == bound]
+        tests = [Form("where", (), (it,)) for it in tests_of(olds) if bound_of(it) == bound]
         return (Form("for", clause.words, (left, *clause.parts[1:])), *tests[:1])
-    for old in (it for it in olds if it.word == "where"):
+    for old in tests_of(olds):
         for slot in slots(old):
             right = Form("operand", operand.words, (of_variable(operand.parts[0], slot),))
-            test = Form("where", (), (Form("chain", (), (of_variable(first, slot), right)),))
+            test = Form("chain", (), (of_variable(first, slot), right))
             if derived(old, test) is not None:
-                return Form("for", clause.words, (left, *clause.parts[1:])), test
+                written = Form("for", clause.words, (left, *clause.parts[1:]))
+                return written, Form("where", (), (test,))
     return (clause,)
 
 
