@@ -5,7 +5,7 @@
 PROGRAM is the server as it was built; the package goes to FOLDER, and its path is printed. It has
 /usr/bin/xq_server and /usr/bin/xqs with a manual page of each and of each command of xqs, made from
 their `--help`, completion for bash, units of systemd for a file that several servers share and for
-a node, README and docs. It wants `dpkg-deb`, `help2man`, a clean work tree, and the packages that
+a node, and all pages. It wants `dpkg-deb`, `help2man`, a clean work tree, and the packages that
 commands of xqs import before they show their help: python3-aiohttp for `xqs web`.
 """
 
@@ -148,7 +148,7 @@ def fill(root: Root, program: pathlib.Path, is_unproved: bool) -> None:
         for there, here in IN_UNITS.items():
             text = text.replace(there, here)
         root.write(UNITS / pathlib.PurePosixPath(file).name, text)
-    for file in [*tracked("docs"), "README.md"]:
+    for file in [*tracked("docs"), "README.md", "CHANGELOG.md", "CONTRIBUTING.md"]:
         root.copy(TOP / file, DOCS / file, 0o644)
 
 
