@@ -132,7 +132,7 @@ some_text a s h (b ∷ bs) (t ∷ ts) k =
     ∙ ap (or_rest (text_eq s t)) (some_text a s h bs ts k.1)
     ∙ or_is (text_eq s t) (list_any (text_eq s) ts)
 
-texts_meet : (as' bs : List Atomic) (ss ts : List Text) → AreTexts as' ss → AreTexts bs ts → some_pair comp.Eq as' bs ≡ Ok (meet ss ts)
+pub texts_meet : (as' bs : List Atomic) (ss ts : List Text) → AreTexts as' ss → AreTexts bs ts → some_pair comp.Eq as' bs ≡ Ok (meet ss ts)
 texts_meet [] bs [] ts h k = refl
 texts_meet [] bs (s ∷ ss) ts h k = absurd h
 texts_meet (a ∷ as') bs [] ts h k = absurd h

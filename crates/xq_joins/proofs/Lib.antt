@@ -12,6 +12,7 @@ pub mod Valued
 pub mod Told
 pub mod DocumentPaths
 pub mod Keying
+pub mod AtomKeys
 pub mod Deciding
 pub mod LoneAttributes
 pub mod ValueTests

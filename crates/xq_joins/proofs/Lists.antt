@@ -52,6 +52,13 @@ if_some P R (Ok (Some x)) then' h = then' x h
 if_some P R (Ok None) then' h = tt
 if_some P R (Err e) then' h = h
 
+-- and where it is so of all
+pub some_of_all : {B A E : Type 0} (P : B → A → Type 0) (R : A → Type 0) (r : Result (Option A) E) → ((x : A) → ((b : B) → P b x) → R x)
+    → ((b : B) → IfOk r (λ o. IfSome o (P b))) → IfOk r (λ o. IfSome o R)
+some_of_all P R (Ok (Some x)) then' h = then' x h
+some_of_all P R (Ok None) then' h = tt
+some_of_all P R (Err e) then' h = tt
+
 pub if_held : {A : Type 0} (P R : A → Type 0) (o : Option A) → ((x : A) → P x → R x) → IfSome o P → IfSome o R
 if_held P R (Some x) then' h = then' x h
 if_held P R None then' h = tt

@@ -43,12 +43,16 @@ tells_so j f (Err (OfCode code)) h = h
 tells_so j f (Err (OfWant want)) h = tt
 
 -- a call of one argument that is at hand
+pub call_gives : (function : Function) (p : Plan) (parts : List Plan) (frame : Frame) (f : List Tree) (xs : List Item) → parts ≡ p ∷ [] → plan_mean p frame f ≡ (Ok xs, f)
+    → Forms.call function (map plan_mean parts) frame f ≡ (of_one function f frame.addresses xs, f)
+call_gives function p parts frame f xs one gives =
+    let calls : Outcome (List Item) → Outcome (List Item) = λ o. go_on (go_on (go_on o (λ y. give (y ∷ []))) (λ next. give next)) (λ values. on_trees (λ trees. called function trees frame.addresses frame.focus values)) in
+    ap (λ l. Forms.call function (map plan_mean l) frame f) one ∙ ap calls gives
+
 pub call_tells : (function : Function) (p : Plan) (parts : List Plan) (frame : Frame) (f : List Tree) (xs : List Item) (r : Result (Option Atom) Fault) → parts ≡ p ∷ [] → plan_mean p frame f ≡ (Ok xs, f)
     → TellsAtom (of_one function f frame.addresses xs) r → Tells atomic (Forms.call function (map plan_mean parts) frame f) f r
 call_tells function p parts frame f xs r one gives h =
-    let calls : Outcome (List Item) → Outcome (List Item) = λ o. go_on (go_on (go_on o (λ y. give (y ∷ []))) (λ next. give next)) (λ values. on_trees (λ trees. called function trees frame.addresses frame.focus values)) in
-    let is : Forms.call function (map plan_mean parts) frame f ≡ (of_one function f frame.addresses xs, f) = ap (λ l. Forms.call function (map plan_mean l) frame f) one ∙ ap calls gives in
-    subst (λ o. Tells atomic o f r) (sym is) (tells_so (of_one function f frame.addresses xs) f r h)
+    subst (λ o. Tells atomic o f r) (sym (call_gives function p parts frame f xs one gives)) (tells_so (of_one function f frame.addresses xs) f r h)
 
 -- # Atomized
 

@@ -10,7 +10,7 @@ use Rattle.xq_meaning.specs.Items.{Place, Item}
 use Rattle.xq_meaning.specs.PlanMeaning.{Frame, opened, plan_mean}
 use Rattle.xq_meaning.specs.Steps.{axis_nodes}
 use Rattle.xq_joins.specs.declared.keyed.KeyedTest.{KeyedTest}
-use Rattle.xq_joins.specs.Equalities.{on_nodes, Asks}
+use Rattle.xq_joins.specs.Equalities.{on_nodes, Asks, IsTreeAt, Keeps}
 use Rattle.xq_joins.specs.Keys.{text_at, meet}
 
 -- the step of the test leads from the node to one that has one of its texts
@@ -27,6 +27,11 @@ passes_key trees found = on_nodes trees (leads_to_key trees found)
 -- the test, and refuses and constructs nothing
 abbrev pub IsKeyedTest : List Tree → Tuple ItemView → KeyedTest → Plan → Type 0
 IsKeyedTest trees slots found p = Asks trees slots (leads_to_key trees found) p
+
+-- over any trees, it keeps those of their nodes that pass the test
+abbrev pub IsValueKeyTest : Tuple ItemView → KeyedTest → Plan → Type 0
+IsValueKeyTest slots found p =
+    (trees : List Tree) → Keeps trees slots (IsTreeAt trees) (leads_to_key trees found) p
 
 -- # In a quantified expression
 

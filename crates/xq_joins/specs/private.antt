@@ -2,6 +2,7 @@ pub mod Keys
 pub mod Shapes
 pub mod Pairs
 pub mod JoinKeys
+pub mod AtomKeys
 pub mod Tables
 pub mod Texts
 pub mod Keyed

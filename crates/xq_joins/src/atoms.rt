@@ -18,7 +18,7 @@ use xq_operators::{EvalContext, call_on_places, is_told, only_atom};
 use xq_sources::RowLender;
 
 /// The only argument of a call.
-fn only_part(parts: &[Plan]) -> Option<&Plan>
+pub fn only_part(parts: &[Plan]) -> Option<&Plan>
     ensures { IfSome result (λ part. parts.now ≡ part.now ∷ []) }
 {
     let [part] = parts else {

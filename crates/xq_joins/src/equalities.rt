@@ -386,7 +386,7 @@ fn passes<L: RowLender>(
 }
 
 /// The name of the attributes to which the step of the test leads, where it leads to such alone.
-fn wanted_attribute<'a>(found: TextTest<'a>) -> Option<&'a str>
+pub fn wanted_attribute<'a>(found: TextTest<'a>) -> Option<&'a str>
     ensures { IfSome result (λ name. (found.entry.axis ≡ axes.Attributes)
         × (found.entry.test.now ≡ tests.Attribute (Some name.now))) }
 {

@@ -9,6 +9,7 @@ ghost use Rattle.xq_meaning.specs.Items.{atomized};
 ghost use Rattle.xq_meaning.specs.Readings.{node_at, items_at, AreIn};
 ghost use Rattle.xq_joins.specs.private.Keys.{nodes_after as nodes_after_lem};
 ghost use Rattle.xq_joins.specs.private.JoinKeys.{AreTexts, LeadsTo, FormsAs, IsKeyOf};
+ghost use Rattle.xq_joins.specs.private.AtomKeys.{IsAtomText};
 ghost use Rattle.xq_joins.specs.private.Texts.{IsTextItem};
 
 use crate::keys::texts_of;
@@ -52,7 +53,7 @@ fn text_in(item: &Item) -> Option<&str>
 }
 
 /// The texts of items that all are strings or untyped values.
-fn texts_in(alloc: Global, items: &[Item]) -> Result<Option<Vec<String>>, Want>
+pub fn texts_in(alloc: Global, items: &[Item]) -> Result<Option<Vec<String>>, Want>
     ensures { (trees : List Tree) → IfOk result (λ found. IfSome found (λ texts.
         AreTexts (atomized trees (items_at trees (map item_view items.now)))
         (map string_bytes texts.items))) }
@@ -129,6 +130,26 @@ fn atom_alone(items: &[Item]) -> Option<&Atom>
     Some(atom)
 }
 
+/// The text that `string(..)` gives of the only item, where it is an atom, of any type.
+pub fn text_of_atom(alloc: Global, items: &[Item]) -> Result<Option<String>, Want>
+    ensures { IfOk result (λ found. IfSome found (λ text.
+        IsAtomText (map item_view items.now) (string_bytes text))) }
+{
+    let Some(atom) = atom_alone(items) else {
+        return Ok(None);
+    };
+    Ok(Some(cast_str(alloc, atom)?))
+}
+
+/// This text alone.
+pub fn alone(alloc: Global, text: String) -> Result<Vec<String>, Want>
+    ensures { IfOk result (λ texts. map string_bytes texts.items ≡ string_bytes text ∷ []) }
+{
+    let mut texts = Vec::with_capacity(alloc, 1)?;
+    texts.push(text)?;
+    Ok(texts)
+}
+
 /// The text that a key gives which is `string(..)` of the item in its slot, one atom of any type.
 /// None where it is another key, or where there is another value.
 fn atom_text(alloc: Global, key: &JoinKey, items: &[Item]) -> Result<Option<Vec<String>>, Want>
@@ -142,12 +163,10 @@ fn atom_text(alloc: Global, key: &JoinKey, items: &[Item]) -> Result<Option<Vec<
     if !key.scans.is_empty() {
         return Ok(None);
     }
-    let Some(atom) = atom_alone(items) else {
+    let Some(text) = text_of_atom(alloc, items)? else {
         return Ok(None);
     };
-    let mut texts = Vec::with_capacity(alloc, 1)?;
-    texts.push(cast_str(alloc, atom)?)?;
-    Ok(Some(texts))
+    Ok(Some(alone(alloc, text)?))
 }
 
 /// Whether so many atoms may be compared: one at most, where values are.

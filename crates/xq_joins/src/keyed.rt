@@ -1,6 +1,6 @@
 //! Predicates that compare a step from the item with a key, the texts of nodes in a slot or of
-//! those to which scans lead from them (XQuery 3.1, sections 3.3.3 and 3.7.2): the key is the same
-//! at each item, and is read once.
+//! those to which scans lead from them, or of atoms in a slot (XQuery 3.1, sections 3.3.3 and
+//! 3.7.2): the key is the same at each item, and is read once.
 ghost use Rattle.std.specs.Prelude.{◌≡◌, List, map, filter, string_bytes, IfOk, IfSome};
 ghost use Rattle.std.specs.List.{AllByRecursion};
 ghost use Rattle.xq_trees.specs.Items.{item_view, item_views};
@@ -11,14 +11,17 @@ ghost use Rattle.xq_meaning.specs.Items.{Place};
 ghost use Rattle.xq_meaning.specs.Readings.{node_at, IsIn, AreIn};
 ghost use Rattle.xq_operators.specs.Views.{TupleIn};
 ghost use Rattle.xq_joins.specs.Equalities.{leads_to_text};
-ghost use Rattle.xq_joins.specs.Keyed.{leads_to_key as leads_to_key_lem, passes_key as passes_key_lem, IsKeyedTest};
+ghost use Rattle.xq_joins.specs.Keyed.{leads_to_key as leads_to_key_lem, passes_key as passes_key_lem, IsKeyedTest, IsValueKeyTest};
 ghost use Rattle.xq_joins.specs.Keys.{meet, text_at, IsNode};
+ghost use Rattle.xq_joins.specs.private.AtomKeys.{IsAtomsTest, IsAttributeKey};
 ghost use Rattle.xq_joins.specs.private.Keyed.{ComparesKey, HasTexts};
 
-use crate::equalities::{TextTest, have_text, keep_by_text, near_step};
+use crate::atom_keys::{atom_texts, string_of_slot};
+use crate::equalities::{TextTest, have_text, keep_by_text, near_step, wanted_attribute};
+use crate::join_keys::alone;
 use crate::keys::key_texts;
 use crate::pairs::Key;
-use crate::shapes::{key_of, operands};
+use crate::shapes::{key_of, operands, value_operands};
 use crate::values::{are_nodes, value};
 use std::alloc::Global;
 use xq_atoms::Want;
@@ -92,10 +95,9 @@ pub fn with_texts<'a, L: RowLender>(
 }
 
 /// The test that a predicate of these items is, where the slots hold these values: it compares a
-/// step to children or attributes with a key, in either order, for equality. None where it doesn't,
-/// where there is no item, or where an item or what the key starts from is no node: it may refuse
-/// then.
-pub fn keyed_test<'a, L: RowLender>(
+/// step to children or attributes with a key of nodes, in either order, for equality. None where it
+/// doesn't, where there is no item, or where an item or what the key starts from is no node.
+fn nodes_test<'a, L: RowLender>(
     alloc: Global,
     source: &mut L,
     slots: &[SlotValue],
@@ -114,6 +116,124 @@ pub fn keyed_test<'a, L: RowLender>(
         return Ok(None);
     };
     with_texts(alloc, source, slots, items, found)
+}
+
+/// The test for the texts of the atoms that a plan gives, of the nodes to which a step to children
+/// or attributes leads. None where the plans are no such step and atoms.
+fn atoms_test<'a>(
+    alloc: Global,
+    slots: &[SlotValue],
+    step: &'a Plan,
+    other: &Plan,
+) -> Result<Option<KeyedTest<'a>>, Want>
+    ensures { IfOk result (λ found. IfSome found (λ test.
+        IsAtomsTest (values_of slots.now) test step.now other.now)) }
+{
+    let Some((axis, test)) = near_step(step) else {
+        return Ok(None);
+    };
+    let Some(texts) = atom_texts(alloc, slots, other)? else {
+        return Ok(None);
+    };
+    Ok(Some(KeyedTest { axis, test, texts }))
+}
+
+/// The test that a predicate is of nodes, where the slots hold these values: it compares a step to
+/// children or attributes with atoms, in either order, for equality. None where it doesn't.
+fn compared_atoms<'a>(
+    alloc: Global,
+    slots: &[SlotValue],
+    predicate: &'a Plan,
+) -> Result<Option<KeyedTest<'a>>, Want>
+    ensures { IfOk result (λ found. IfSome found (λ test. (trees : List Tree)
+        → IsKeyedTest trees (values_of slots.now) test predicate.now)) }
+{
+    let Some((first, second)) = operands(predicate) else {
+        return Ok(None);
+    };
+    if let Some(test) = atoms_test(alloc, slots, first, second)? {
+        return Ok(Some(test));
+    }
+    atoms_test(alloc, slots, second, first)
+}
+
+/// The test that a predicate of these items is, where the slots hold these values: it compares a
+/// step to children or attributes with a key, in either order, for equality. The key is one of
+/// nodes, or it is strings and untyped values in a slot, or `string(..)` of one atom in a slot. None
+/// where the predicate is no such test, where there is no item, or where an item is no node: it may
+/// refuse then.
+pub fn keyed_test<'a, L: RowLender>(
+    alloc: Global,
+    source: &mut L,
+    slots: &[SlotValue],
+    items: &[Item],
+    predicate: &'a Plan,
+) -> Result<Option<KeyedTest<'a>>, Want>
+    ensures test { L.is_clean source.new → TupleIn (L.forest source.old) (values_of slots.now)
+        → IfOk result (λ found. IfSome found (λ test.
+        IsKeyedTest (L.forest source.old) (values_of slots.now) test predicate.now)) }
+    ensures nodes { IfOk result (λ found. IfSome found (λ _.
+        AllByRecursion IsNode (map item_view items.now))) }
+    ensures keeps { L.forest source.new ≡ L.forest source.old }
+    ensures was_clean { L.is_clean source.new → L.is_clean source.old }
+{
+    if let Some(test) = nodes_test(alloc, source, slots, items, predicate)? {
+        return Ok(Some(test));
+    }
+    if items.is_empty() || !are_nodes(items) {
+        return Ok(None);
+    }
+    compared_atoms(alloc, slots, predicate)
+}
+
+/// The test for the text that `string(..)` of a slot gives, of the attributes with a name to which a
+/// step leads. None where the plans are no such step and text.
+fn attribute_key<'a>(
+    alloc: Global,
+    slots: &[SlotValue],
+    step: &'a Plan,
+    other: &Plan,
+) -> Result<Option<KeyedTest<'a>>, Want>
+    ensures { IfOk result (λ found. IfSome found (λ test.
+        IsAttributeKey (values_of slots.now) test step.now other.now)) }
+{
+    let Some((axis, test)) = near_step(step) else {
+        return Ok(None);
+    };
+    let Some(text) = string_of_slot(alloc, slots, other)? else {
+        return Ok(None);
+    };
+    let found = TextTest {
+        axis,
+        test,
+        text: text.as_str(),
+    };
+    let Some(_name) = wanted_attribute(found) else {
+        return Ok(None);
+    };
+    let texts = alone(alloc, text)?;
+    Ok(Some(KeyedTest { axis, test, texts }))
+}
+
+/// The test that a predicate is for the nodes of trees, where the slots hold these values: a step
+/// to the attributes with a name, and `string(..)` of one atom in a slot, in either order, compared
+/// as values (XQuery 3.1, section 3.7.1). A node has one such attribute at most, so the comparison
+/// refuses none. None where it is no such test.
+pub fn value_key_test<'a>(
+    alloc: Global,
+    slots: &[SlotValue],
+    predicate: &'a Plan,
+) -> Result<Option<KeyedTest<'a>>, Want>
+    ensures { IfOk result (λ found. IfSome found (λ test.
+        IsValueKeyTest (values_of slots.now) test predicate.now)) }
+{
+    let Some((first, second)) = value_operands(predicate) else {
+        return Ok(None);
+    };
+    if let Some(test) = attribute_key(alloc, slots, first, second)? {
+        return Ok(Some(test));
+    }
+    attribute_key(alloc, slots, second, first)
 }
 
 // # What passes them

@@ -6,6 +6,7 @@
 //! where they lie, and no lists are made.
 #![tactic(auto)]
 
+mod atom_keys;
 mod atoms;
 mod decisions;
 mod equalities;
@@ -23,6 +24,6 @@ pub use decisions::decided_by_key;
 pub use equalities::{
     NodeTest, TextTest, are_in_trees, keep_by_text, leads_to_text, node_test, text_test, value_test,
 };
-pub use keyed::{KeyedTest, keep_by_key, keyed_test, only_text_test};
+pub use keyed::{KeyedTest, keep_by_key, keyed_test, only_text_test, value_key_test};
 pub use matches::matching;
 pub use values::{are_nodes, value};

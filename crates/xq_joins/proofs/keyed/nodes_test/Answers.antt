@@ -6,7 +6,7 @@ use Rattle.xq_joins.specs.declared.keyed.KeyedTest.{KeyedTest}
 use Rattle.xq_joins.specs.Keyed.{IsKeyedTest}
 use Rattle.xq_joins.specs.private.Keyed.{HasTexts}
 use Rattle.xq_joins.proofs.Keying.{keyed_is}
-use Rattle.xq_joins.proofs.keyed.keyed_test.Goals as goal
+use Rattle.xq_joins.proofs.keyed.nodes_test.Goals as goal
 
 pub returns-clause-test : goal.returns-clause-test
 returns-clause-test g c = λ k inside.
