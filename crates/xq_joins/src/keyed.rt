@@ -159,9 +159,9 @@ fn compared_atoms<'a>(
 
 /// The test that a predicate of these items is, where the slots hold these values: it compares a
 /// step to children or attributes with a key, in either order, for equality. The key is one of
-/// nodes, or it is strings and untyped values in a slot, or `string(..)` of one atom in a slot. None
-/// where the predicate is no such test, where there is no item, or where an item is no node: it may
-/// refuse then.
+/// nodes, or it is strings and untyped values in a slot, or `string(..)` of one atom in a slot.
+/// None where the predicate is no such test, where there is no item, or where an item is no node:
+/// it may refuse then.
 pub fn keyed_test<'a, L: RowLender>(
     alloc: Global,
     source: &mut L,
@@ -186,8 +186,8 @@ pub fn keyed_test<'a, L: RowLender>(
     compared_atoms(alloc, slots, predicate)
 }
 
-/// The test for the text that `string(..)` of a slot gives, of the attributes with a name to which a
-/// step leads. None where the plans are no such step and text.
+/// The test for the text that `string(..)` of a slot gives, of the attributes with a name to which
+/// a step leads. None where the plans are no such step and text.
 fn attribute_key<'a>(
     alloc: Global,
     slots: &[SlotValue],
