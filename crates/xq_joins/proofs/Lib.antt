@@ -13,6 +13,7 @@ pub mod Told
 pub mod DocumentPaths
 pub mod Keying
 pub mod AtomKeys
+pub mod TextSets
 pub mod Deciding
 pub mod LoneAttributes
 pub mod ValueTests

@@ -6,4 +6,5 @@ pub mod AtomKeys
 pub mod Tables
 pub mod Texts
 pub mod Keyed
+pub mod TextSets
 pub mod Paths

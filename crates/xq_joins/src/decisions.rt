@@ -62,7 +62,7 @@ fn some_decides<L: RowLender>(
     ensures was_clean { L.is_clean source.new → L.is_clean source.old }
 {
     for item in items {
-        let answer = passes_key(alloc, source, item, found)?;
+        let answer = passes_key(alloc, source, item, found, &None)?;
         if answer == wanted {
             return Ok(wanted);
         }

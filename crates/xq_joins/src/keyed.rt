@@ -15,6 +15,7 @@ ghost use Rattle.xq_joins.specs.Keyed.{leads_to_key as leads_to_key_lem, passes_
 ghost use Rattle.xq_joins.specs.Keys.{meet, text_at, IsNode};
 ghost use Rattle.xq_joins.specs.private.AtomKeys.{IsAtomsTest, IsAttributeKey};
 ghost use Rattle.xq_joins.specs.private.Keyed.{ComparesKey, HasTexts};
+ghost use Rattle.xq_joins.specs.private.TextSets.{IsSetFor};
 
 use crate::atom_keys::{atom_texts, string_of_slot};
 use crate::equalities::{TextTest, have_text, keep_by_text, near_step, wanted_attribute};
@@ -22,6 +23,7 @@ use crate::join_keys::alone;
 use crate::keys::key_texts;
 use crate::pairs::Key;
 use crate::shapes::{key_of, operands, value_operands};
+use crate::text_sets::{TextSet, have_text_in, set_of};
 use crate::values::{are_nodes, value};
 use std::alloc::Global;
 use xq_atoms::Want;
@@ -276,45 +278,57 @@ fn have_one<L: RowLender>(
     Ok(false)
 }
 
-/// Whether the step leads from the node to one that has one of the texts.
+/// The set of the texts of the test, where there are several items and texts.
+fn text_set(alloc: Global, items: &[Item], found: &KeyedTest<'_>) -> Result<Option<TextSet>, Want>
+    ensures { IfOk result (λ set. IsSetFor set found.now) }
+{
+    if items.len() <= 4 || found.texts.len() <= 4 {
+        return Ok(None);
+    }
+    Ok(Some(set_of(alloc, found.texts.as_slice())?))
+}
+
+/// Whether the step leads from the node to one that has one of the texts. If there is a set, then it
+/// has these texts, and is asked.
 fn leads_to_key<L: RowLender>(
     alloc: Global,
     source: &mut L,
     node: Node,
     found: &KeyedTest<'_>,
+    set: &Option<TextSet>,
 ) -> Result<bool, Want>
-    ensures answer { L.is_clean source.new
+    ensures answer { L.is_clean source.new → IsSetFor set.now found.now
         → HasNode (L.forest source.old) node.tree node.pre
         → IfOk result (λ answer. answer ≡ leads_to_key_lem (L.forest source.old) found.now
         (node_at (L.forest source.old) node)) }
     ensures keeps { L.forest source.new ≡ L.forest source.old }
     ensures was_clean { L.is_clean source.new → L.is_clean source.old }
 {
-    let places = places_on_axis(alloc, source, node, found.axis, found.test)?;
-    have_one(
-        alloc,
-        source,
-        node.tree,
-        places.as_slice(),
-        found.texts.as_slice(),
-    )
+    let led = places_on_axis(alloc, source, node, found.axis, found.test)?;
+    let places = led.as_slice();
+    if let Some(set) = set {
+        return have_text_in(alloc, source, node.tree, places, set);
+    }
+    have_one(alloc, source, node.tree, places, found.texts.as_slice())
 }
 
-/// Whether the item is a node that passes the test.
+/// Whether the item is a node that passes the test. If there is a set, then it has the texts of the
+/// test, and is asked.
 pub fn passes_key<L: RowLender>(
     alloc: Global,
     source: &mut L,
     item: &Item,
     found: &KeyedTest<'_>,
+    set: &Option<TextSet>,
 ) -> Result<bool, Want>
-    ensures answer { L.is_clean source.new → IsIn (L.forest source.old) (item_view item.now)
-        → IfOk result (λ answer.
+    ensures answer { L.is_clean source.new → IsSetFor set.now found.now
+        → IsIn (L.forest source.old) (item_view item.now) → IfOk result (λ answer.
         answer ≡ passes_key_lem (L.forest source.old) found.now (item_view item.now)) }
     ensures keeps { L.forest source.new ≡ L.forest source.old }
     ensures was_clean { L.is_clean source.new → L.is_clean source.old }
 {
     match item {
-        Item::Node(node) => leads_to_key(alloc, source, *node, found),
+        Item::Node(node) => leads_to_key(alloc, source, *node, found, set),
         Item::Atom(_) => Ok(false),
     }
 }
@@ -336,9 +350,10 @@ pub fn keep_by_key<L: RowLender>(
     if let Some(test) = only_text_test(found) {
         return keep_by_text(alloc, source, items, test);
     }
+    let known = text_set(alloc, items, found)?;
     let mut kept = Vec::new(alloc);
     for item in items {
-        let is_kept = passes_key(alloc, source, item, found)?;
+        let is_kept = passes_key(alloc, source, item, found, &known)?;
         kept = push_copy(alloc, kept, item, is_kept)?;
     }
     Ok(kept)

@@ -17,6 +17,7 @@ mod matches;
 mod pairs;
 mod paths;
 mod shapes;
+mod text_sets;
 mod values;
 
 pub use atoms::{atom_of, atom_of_call};

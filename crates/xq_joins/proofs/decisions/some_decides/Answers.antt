@@ -27,7 +27,7 @@ loop-item-preserved g c =
       was_clean = λ k. i.was_clean (c.passes_key.ensures.was_clean k);
       left = λ k inside.
           let x_in = all_at (IsIn old) item_view items n x inside (omega arith) c.item-item.is in
-          let answer : b ≡ h (item_view x) = subst (λ (f : List Tree). IsIn f (item_view x) → b ≡ passes_key f found (item_view x)) i.keeps (c.in_ok-answer.ensures.answer k) x_in in
+          let answer : b ≡ h (item_view x) = subst (λ (f : List Tree). IsIn f (item_view x) → b ≡ passes_key f found (item_view x)) i.keeps (c.in_ok-answer.ensures.answer k tt) x_in in
           i.left (c.passes_key.ensures.was_clean k) inside
           ∙ ap (λ l. decided wanted (map h (map item_view l))) (left_first items n x (omega arith) c.item-item.is)
           ∙ decided_missed wanted (h (item_view x)) (map h (map item_view (drop (n + 1) items))) (sym answer ∙ other);
@@ -46,7 +46,7 @@ returns-then-answer-wanted-clause-answer g c = λ k inside.
     let h = passes_key old found in
     let same : b ≡ wanted = search rules in
     let x_in = all_at (IsIn old) item_view items n x inside (omega arith) c.item-item.is in
-    let answer : b ≡ h (item_view x) = subst (λ (f : List Tree). IsIn f (item_view x) → b ≡ passes_key f found (item_view x)) i.keeps (c.in_ok-answer.ensures.answer k) x_in in
+    let answer : b ≡ h (item_view x) = subst (λ (f : List Tree). IsIn f (item_view x) → b ≡ passes_key f found (item_view x)) i.keeps (c.in_ok-answer.ensures.answer k tt) x_in in
     sym (i.left (c.passes_key.ensures.was_clean k) inside
     ∙ ap (λ l. decided wanted (map h (map item_view l))) (left_first items n x (omega arith) c.item-item.is)
     ∙ decided_found wanted (h (item_view x)) (map h (map item_view (drop (n + 1) items))) (sym answer ∙ same))

@@ -20,6 +20,7 @@ loop-item-init g c =
     let all = filter (passes_key old c.args.found.now) (map item_view c.args.items.now) in
     record {
       keeps = refl;
+      known = c.in_ok-known.ensures;
       was_clean = λ k. k;
       kept = λ k inside. ap (λ l. map item_view l ++ all) (sym c.new-kept.ensures.items);
     }
@@ -36,10 +37,11 @@ loop-item-preserved g c =
     let h = passes_key old found in
     record {
       keeps = c.passes_key.ensures.keeps ∙ i.keeps;
+      known = i.known;
       was_clean = λ k. i.was_clean (c.passes_key.ensures.was_clean k);
       kept = λ k inside.
           let x_in = all_at (IsIn old) item_view items n x inside (omega arith) c.item-item.is in
-          let answer : b ≡ h (item_view x) = subst (λ (f : List Tree). IsIn f (item_view x) → b ≡ passes_key f found (item_view x)) i.keeps (c.in_ok-is_kept.ensures.answer k) x_in in
+          let answer : b ≡ h (item_view x) = subst (λ (f : List Tree). IsIn f (item_view x) → b ≡ passes_key f found (item_view x)) i.keeps (c.in_ok-is_kept.ensures.answer k i.known) x_in in
           i.kept (c.passes_key.ensures.was_clean k) inside
           ∙ kept_next h (item_view x) (item_views c.loop-item.kept) (item_views c.in_ok-kept.kept) (map item_view (drop n items)) (map item_view (drop (n + 1) items)) b answer
           (ap (map item_view) (left_first items n x (omega arith) c.item-item.is)) c.in_ok-kept.ensures;
