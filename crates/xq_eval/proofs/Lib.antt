@@ -7,14 +7,17 @@ pub mod Quantifying
 pub mod QuantifiedTurns
 pub mod Steps
 pub mod PositionalPredicates
+pub mod PositionRanges
 pub mod Spans
 pub mod DocumentScans
 pub mod FirstScans
 pub mod TextSteps
+pub mod ChildSteps
 pub mod Telling
 pub mod Choosing
 pub mod FlatKeys
 pub mod LoneFor
+pub mod LentFilters
 pub mod ItemCalls
 pub mod AtHand
 pub mod Pieces

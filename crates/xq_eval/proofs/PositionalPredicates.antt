@@ -55,14 +55,19 @@ last_there slots p count n is all trees frame env = record {
       ∙ ap (λ k. (Ok (atomic (Integer (pos k))), trees)) at ∙ ap (λ z. (Ok (atomic (Integer z)), trees)) (sym all);
 }
 
+-- two operands
+pub two_values : (frame : Frame) (trees : List Tree) (p q : Plan) (op : Operator) (xs ys zs : List Item) → plan_mean p frame trees ≡ (Ok xs, trees) → plan_mean q frame trees ≡ (Ok ys, trees) → operated op trees xs ys ≡ Ok zs
+    → plan_mean (plan.Chain p ((op, q) ∷ [])) frame trees ≡ (Ok zs, trees)
+two_values frame trees p q op xs ys zs first second h =
+    ap (λ (m : Meaning). m frame trees) (plan-Chain p ((op, q) ∷ []))
+    ∙ ap (λ o. go_on o (λ ls. in_turn (Forms.next_operand frame) ls ((op, plan_mean q) ∷ []))) first
+    ∙ ap (λ o. go_on (go_on o (λ ls. on_trees (λ ts. operated op ts xs ls))) (λ next. give next)) second
+    ∙ ap (λ (r : Judged (List Item)). go_on (r, trees) (λ next. give next)) h
+
 -- two operands that are one atom each
 two_operands : (frame : Frame) (trees : List Tree) (p q : Plan) (op : Operator) (a b : Atomic) (xs : List Item) → plan_mean p frame trees ≡ (Ok (atomic a), trees) → plan_mean q frame trees ≡ (Ok (atomic b), trees)
     → operated op trees (atomic a) (atomic b) ≡ Ok xs → plan_mean (plan.Chain p ((op, q) ∷ [])) frame trees ≡ (Ok xs, trees)
-two_operands frame trees p q op a b xs first second h =
-    ap (λ (m : Meaning). m frame trees) (plan-Chain p ((op, q) ∷ []))
-    ∙ ap (λ o. go_on o (λ zs. in_turn (Forms.next_operand frame) zs ((op, plan_mean q) ∷ []))) first
-    ∙ ap (λ o. go_on (go_on o (λ zs. on_trees (λ ts. operated op ts (atomic a) zs))) (λ next. give next)) second
-    ∙ ap (λ (r : Judged (List Item)). go_on (r, trees) (λ next. give next)) h
+two_operands frame trees p q op a b xs first second h = two_values frame trees p q op (atomic a) (atomic b) xs first second h
 
 -- an operator from `last()`
 pub from_last_there : (slots : List SlotValue) (p first part : Plan) (op : Operator) (count : ℕ) (last n : ℤ) (found : Option ℤ) → p ≡ plan.Chain first ((op, part) ∷ []) → first ≡ plan.Call Last [] → last ≡ pos count
@@ -99,7 +104,7 @@ both_give by p q r frame trees a b (inl is) first second =
 both_give by p q r frame trees a b (inr is) first second =
     ap (λ s. plan_mean s frame trees) is ∙ two_operands frame trees p q (operator.Comparison (comparing.Value by)) (Integer a) (Integer b) (boolean (answer (related_by by) a b)) first second refl
 
-position_is : (p : Plan) (frame : Frame) (focus : Focus) (trees : List Tree) → p ≡ plan.Call Position [] → plan_mean p (Forms.in_focus frame focus) trees ≡ (Ok (atomic (Integer (pos focus.position))), trees)
+pub position_is : (p : Plan) (frame : Frame) (focus : Focus) (trees : List Tree) → p ≡ plan.Call Position [] → plan_mean p (Forms.in_focus frame focus) trees ≡ (Ok (atomic (Integer (pos focus.position))), trees)
 position_is p frame focus trees is = ap (λ q. plan_mean q (Forms.in_focus frame focus) trees) is ∙ ap (λ (m : Meaning). m (Forms.in_focus frame focus) trees) (plan-Call Position [])
 
 -- `position()` stands first

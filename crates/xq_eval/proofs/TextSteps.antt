@@ -116,29 +116,38 @@ module _ (among : ℕ → Type 0) where
   are_of f (NodeAt n ∷ xs) h = (h.0, are_of f xs h.1)
   are_of f (Value a ∷ xs) h = absurd h.0
 
-module _ (of : Test) (xs : List Item) (f f' : List Tree) (found : List ItemView) (value : after_double_slash of xs f ≡ (Ok (items_at f' found), f')) where
-  pub after_stays : f' ≡ f
-  after_stays =
-      sym (ap (λ (o : Outcome (List Item)). o.1) value)
-      ∙ then_stays (Forms.scan DescendantOrSelf Any xs f) (Forms.scan Child of) f (scan_stays DescendantOrSelf Any xs f) (λ ys. scan_stays Child of ys)
+-- # What a predicate keeps of what was found
 
-  pub after_in : (among : ℕ → Type 0) → IfOk (all_nodes XPTY0019 xs) (AllByRecursion (In among)) → AllByRecursion (IsNodeOf among) found
-  after_in among h =
-      are_of among f' found (subst (GivesOf among) value (second_gives among of (Forms.scan DescendantOrSelf Any xs f) (scan_gives among DescendantOrSelf Any f (all_nodes XPTY0019 xs) h)))
+outcome_tested : (among : List Tree → ℕ → Type 0) (ask : List Tree → Place → Bool) (slots : Tuple ItemView) (p : Plan) (f f1 f2 : List Tree) → Keeps f slots (among f) (ask f) p → (frame : Frame) → frame.env ≡ tuple_at f slots
+    → (o : Outcome (List Item)) → o.1 ≡ f → GivesOf (among f) o
+    → (found kept : List ItemView) → AreIn f1 found × (o ≡ (Ok (items_at f1 found), f1)) → kept ≡ filter (on_nodes f1 (ask f1)) found → f2 ≡ f1
+    → AreIn f2 kept × (go_on o (λ ys. Forms.filtered frame ys (plan_mean p)) ≡ (Ok (items_at f2 kept), f2))
+outcome_tested among ask slots p f f1 f2 is frame env o stay of_those found kept first are keeps =
+    let same : f1 ≡ f = sym (ap (λ (w : Outcome (List Item)). w.1) first.1) ∙ stay in
+    let given = are_of (among f) f1 found (subst (GivesOf (among f)) first.1 of_those) in
+    let found_in = subst (λ t. AllByRecursion (IsNodeOf (among t)) found) (sym same) given in
+    let here : Keeps f1 slots (among f1) (ask f1) p = subst (λ t. Keeps t slots (among t) (ask t) p) (sym same) is in
+    let next = λ (ys : List Item). Forms.filtered frame ys (plan_mean p) in
+    let second = tests_kept f1 slots (among f1) (ask f1) p here frame (env ∙ ap (λ t. tuple_at t slots) (sym same)) f2 found kept found_in first.0 are keeps in
+    (second.0, ap (λ o'. go_on o' next) first.1 ∙ second.1)
 
--- # One scan, and then what a predicate keeps
+-- of one scan
+pub child_scan_tested : (among : List Tree → ℕ → Type 0) (ask : List Tree → Place → Bool) (slots : Tuple ItemView) (p : Plan) (f f1 f2 : List Tree) → Keeps f slots (among f) (ask f) p → (frame : Frame) → frame.env ≡ tuple_at f slots
+    → (of : Test) (xs : List Item) → IfOk (all_nodes XPTY0019 xs) (AllByRecursion (In (among f)))
+    → (found kept : List ItemView) → AreIn f1 found × (Forms.scan Child of xs f ≡ (Ok (items_at f1 found), f1)) → kept ≡ filter (on_nodes f1 (ask f1)) found → f2 ≡ f1
+    → AreIn f2 kept × (go_on (Forms.scan Child of xs f) (λ ys. Forms.filtered frame ys (plan_mean p)) ≡ (Ok (items_at f2 kept), f2))
+child_scan_tested among ask slots p f f1 f2 is frame env of xs nodes found kept first are keeps =
+    outcome_tested among ask slots p f f1 f2 is frame env (Forms.scan Child of xs f) (scan_stays Child of xs f) (scan_gives (among f) Child of f (all_nodes XPTY0019 xs) nodes) found kept first are keeps
 
+-- after `//`
 pub scan_tested : (among : List Tree → ℕ → Type 0) (ask : List Tree → Place → Bool) (slots : Tuple ItemView) (p : Plan) (f f1 f2 : List Tree) → Keeps f slots (among f) (ask f) p → (frame : Frame) → frame.env ≡ tuple_at f slots
     → (of : Test) (xs : List Item) → IfOk (all_nodes XPTY0019 xs) (AllByRecursion (In (among f)))
     → (found kept : List ItemView) → AreIn f1 found × (after_double_slash of xs f ≡ (Ok (items_at f1 found), f1)) → kept ≡ filter (on_nodes f1 (ask f1)) found → f2 ≡ f1
     → AreIn f2 kept × (go_on (after_double_slash of xs f) (λ ys. Forms.filtered frame ys (plan_mean p)) ≡ (Ok (items_at f2 kept), f2))
 scan_tested among ask slots p f f1 f2 is frame env of xs nodes found kept first are keeps =
-    let same = after_stays of xs f f1 found first.1 in
-    let found_in = subst (λ t. AllByRecursion (IsNodeOf (among t)) found) (sym same) (after_in of xs f f1 found first.1 (among f) nodes) in
-    let here : Keeps f1 slots (among f1) (ask f1) p = subst (λ t. Keeps t slots (among t) (ask t) p) (sym same) is in
-    let next = λ (ys : List Item). Forms.filtered frame ys (plan_mean p) in
-    let second = tests_kept f1 slots (among f1) (ask f1) p here frame (env ∙ ap (λ t. tuple_at t slots) (sym same)) f2 found kept found_in first.0 are keeps in
-    (second.0, ap (λ o. go_on o next) first.1 ∙ second.1)
+    let below = Forms.scan DescendantOrSelf Any xs f in
+    outcome_tested among ask slots p f f1 f2 is frame env (after_double_slash of xs f) (then_stays below (Forms.scan Child of) f (scan_stays DescendantOrSelf Any xs f) (λ ys. scan_stays Child of ys))
+    (second_gives (among f) of below (scan_gives (among f) DescendantOrSelf Any f (all_nodes XPTY0019 xs) nodes)) found kept first are keeps
 
 pub scan_kept : (ask : List Tree → Place → Bool) (slots : Tuple ItemView) (p : Plan) (f f1 f2 : List Tree) → Asks f slots (ask f) p → (frame : Frame) → frame.env ≡ tuple_at f slots
     → (of : Test) (xs : List Item) (found kept : List ItemView) → AreIn f1 found × (after_double_slash of xs f ≡ (Ok (items_at f1 found), f1)) → kept ≡ filter (on_nodes f1 (ask f1)) found → f2 ≡ f1

@@ -1,6 +1,7 @@
 pub mod Bindings
 pub mod Children
 pub mod Keys
+pub mod Lent
 pub mod Positions
 pub mod Quantifying
 pub mod Turns

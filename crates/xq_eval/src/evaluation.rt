@@ -321,7 +321,7 @@ pub fn filter<W: TreeStore>(
 /// The items that one predicate keeps. One whose value an item's position tells is not evaluated at
 /// each, and one that asks nodes for a text, or for those of a key, only reads.
 #[cycle(eval)]
-fn keep<W: TreeStore>(
+pub fn keep<W: TreeStore>(
     alloc: Global,
     world: &mut W,
     frame: EvalContext<'_>,

@@ -24,7 +24,8 @@ ghost use Rattle.xq_eval.specs.private.Quantifying.{IsOf, bindings};
 use crate::at_hand::{cheap_atom, picked};
 use crate::chosen::nodes_of_step;
 use crate::clauses::{clause_list, returned, returned_each};
-use crate::evaluation::{call_list, chain, decided, evaluate, filter};
+use crate::evaluation::{call_list, chain, decided, evaluate, filter, keep};
+use crate::lent::filtered_variable;
 use crate::numbers::number_of_chain;
 use crate::paths::{map_list, step_list};
 use crate::quantified::satisfied;
@@ -137,7 +138,7 @@ pub fn logical<W: TreeStore>(
 }
 
 /// A primary expression and its predicates (XQuery 3.1, section 3.2.1). Where its value is one of
-/// several literals, the others are not made.
+/// several literals, the others are not made; the value of a variable is not copied.
 #[cycle(eval)]
 #[inline(never)]
 pub fn filtered<W: TreeStore>(
@@ -156,6 +157,10 @@ pub fn filtered<W: TreeStore>(
 {
     if let Some(atom) = picked(alloc, frame.slots, start, predicates)? {
         return Ok(single(alloc, Item::Atom(atom))?);
+    }
+    if let Some(found) = filtered_variable(frame.slots, start, predicates) {
+        let kept = keep(alloc, world, frame, found.items, found.first)?;
+        return filter(alloc, world, frame, kept, found.rest);
     }
     let items = evaluate(alloc, world, frame, start)?;
     filter(alloc, world, frame, items, predicates)

@@ -11,6 +11,7 @@ mod evaluation;
 mod expressions;
 mod groups;
 mod integers;
+mod lent;
 mod numbers;
 mod pairs;
 mod paths;

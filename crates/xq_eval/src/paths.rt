@@ -15,7 +15,7 @@ ghost use Rattle.xq_eval.specs.private.Children.{IsToChildren};
 ghost use Rattle.xq_eval.specs.private.Scanning.{IsScan};
 
 use crate::evaluation::next_part;
-use crate::texts::{ChosenChildren, below_by_texts};
+use crate::texts::{ChosenChildren, below_by_texts, children_by_value, value_step};
 use crate::told::call_per_node;
 use sqlite_items::at;
 use std::alloc::Global;
@@ -182,13 +182,35 @@ fn next_items<W: TreeStore>(
         → IfOk result (λ found. AreOf (W.forest world.new) tree (item_views found)) }
 {
     match step {
-        PlanStep::Each(part) => {
-            only_nodes(&items)?;
-            let found = each(alloc, world, frame, &items, part)?;
-            gather(alloc, found)
-        }
+        PlanStep::Each(part) => after_slash(alloc, world, frame, &items, part),
         PlanStep::Scan(axis, test) => scan(alloc, world, &items, *axis, test),
     }
+}
+
+/// What a part leads to from all items, which have to be nodes (XQuery 3.1, section 3.3.1.1). A step
+/// to children whose predicate compares an attribute with a text is taken from all at once.
+#[cycle(eval)]
+fn after_slash<W: TreeStore>(
+    alloc: Global,
+    world: &mut W,
+    frame: EvalContext<'_>,
+    items: &[Item],
+    part: &Plan,
+) -> Result<Items, Fault>
+    ensures goes { Goes (W.forest world.old) (W.forest world.new) (W.is_clean world.old)
+        (W.is_clean world.new) }
+    ensures gives { W.is_clean world.new → FrameIn (W.forest world.old) frame.entry
+        → AreIn (W.forest world.old) (map item_view items.now)
+        → GivesSequence (Forms.slash (frame_at (W.forest world.old) frame.entry) (items_at
+        (W.forest world.old) (map item_view items.now)) (plan_mean part.now) (W.forest world.old))
+        (W.forest world.new) result }
+{
+    if let Some(step) = value_step(alloc, world, frame.slots, part, items)? {
+        return children_by_value(alloc, world, items, step);
+    }
+    only_nodes(items)?;
+    let found = each(alloc, world, frame, items, part)?;
+    gather(alloc, found)
 }
 
 /// The items after each `!`, from those before it.

@@ -1,10 +1,13 @@
 //! Predicates whose value at an item its position tells: an integer at hand, `last()` or arithmetic
-//! on it, or a comparison of `position()` with such an integer (XQuery 3.1, section 3.3.3).
-ghost use Rattle.std.specs.Prelude.{◌≡◌, ◌<◌, ◌^◌, List, ℕ, pos, [], map, length, true, IfSome};
+//! on it, or a comparison of `position()` with such an integer, or with a range of such (XQuery 3.1,
+//! section 3.3.3).
+ghost use Rattle.std.specs.Prelude.{◌≡◌, ◌<◌, ◌≤◌, ◌^◌, ◌∷◌, List, ℕ, pos, [], map, length, true, IfSome};
 ghost use Rattle.xq_trees.specs.Items.{item_view};
 ghost use Rattle.xq_trees.specs.Tree.{Tree};
 ghost use Rattle.xq_meaning.specs.declared.plans.Plan.{Plan as PlanLem};
 ghost use Rattle.xq_meaning.specs.declared.plans.Plan.TheVariants as plan_of;
+ghost use Rattle.xq_meaning.specs.declared.operators.Operator.TheVariants as operator_of;
+ghost use Rattle.xq_expressions.specs.declared.operators.ComparisonOperator.TheVariants as comparing;
 ghost use Rattle.xq_meaning.specs.Forms as Forms;
 ghost use Rattle.xq_meaning.specs.Operators as Operators;
 ghost use Rattle.xq_meaning.specs.PlanMeaning.{Frame as Meant, plan_mean};
@@ -13,6 +16,7 @@ ghost use Rattle.xq_operators.specs.Views.{GivesSequence};
 ghost use Rattle.xq_eval.specs.declared.positions.ByPosition.TheVariants as by_position;
 ghost use Rattle.xq_eval.specs.private.Positions as positions;
 ghost use Rattle.xq_eval.specs.private.Positions.{
+  GivesRange,
   IsPlaceOf,
   IsPositional,
   IsPositionalIn,
@@ -39,6 +43,8 @@ pub enum ByPosition {
     Same(Items),
     /// Whether the position compares so with a number.
     Compared(CompOp, i64),
+    /// Whether the position is one of the integers from one number to another.
+    Within(i64, i64),
 }
 
 /// Items of a list by their places, counted from 0: from one place up to another, without that one.
@@ -55,6 +61,23 @@ struct Comparison<'a> {
     left: &'a Plan,
     right: &'a Plan,
 }
+
+/// The operands of an operator.
+#[derive(Clone, Copy)]
+struct Operands<'a> {
+    left: &'a Plan,
+    right: &'a Plan,
+}
+
+/// The integers from one number to another.
+#[derive(Clone, Copy)]
+struct Range {
+    first: i64,
+    last: i64,
+}
+
+/// The most items that a range may have.
+const MAX_RANGE: i64 = 1_000_000;
 
 /// The function of a call without arguments.
 pub fn bare_call(plan: &Plan) -> Option<Function>
@@ -181,8 +204,103 @@ fn compared(slots: &[SlotValue], predicate: &Plan, last: i64) -> Option<ByPositi
     None
 }
 
+/// The operands of the plan, where it is a general comparison `=` (XQuery 3.1, section 3.7.2).
+fn equated(plan: &Plan) -> Option<Operands<'_>>
+    ensures { IfSome result (λ it. plan.now ≡ plan_of.Chain it.left.now
+        ((operator_of.Comparison (comparing.General Relation.Equal), it.right.now) ∷ [])) }
+{
+    let Plan::Chain(first, rest) = plan else {
+        return None;
+    };
+    let [(operator, second)] = rest.as_slice() else {
+        return None;
+    };
+    let Operator::Comparison(asked) = operator else {
+        return None;
+    };
+    let ComparisonOperator::General(relation) = asked else {
+        return None;
+    };
+    let Relation::Equal = relation else {
+        return None;
+    };
+    Some(Operands {
+        left: first.get(),
+        right: second,
+    })
+}
+
+/// The operands of the plan, where it is `to` (XQuery 3.1, section 3.4.1).
+fn bounds_of(plan: &Plan) -> Option<Operands<'_>>
+    ensures { IfSome result (λ it.
+        plan.now ≡ plan_of.Chain it.left.now ((operator_of.Range, it.right.now) ∷ [])) }
+{
+    let Plan::Chain(first, rest) = plan else {
+        return None;
+    };
+    let [(operator, second)] = rest.as_slice() else {
+        return None;
+    };
+    let Operator::Range = operator else {
+        return None;
+    };
+    Some(Operands {
+        left: first.get(),
+        right: second,
+    })
+}
+
+/// Whether `to` refuses no range of this length, which may be empty.
+fn is_allowed(first: i64, last: i64) -> bool
+    ensures { result ≡ true → Operators.how_many first last ≤ Operators.most_integers }
+{
+    if last < first {
+        return true;
+    }
+    match last.checked_sub(first) {
+        Some(more) => more < MAX_RANGE,
+        None => false,
+    }
+}
+
+/// The range that a plan gives at each item, where it is `to` between integers that are known
+/// there, and is not refused for its length.
+fn range_at_each(slots: &[SlotValue], plan: &Plan, last: i64) -> Option<Range>
+    ensures { (count : ℕ) → last ≡ pos count → IfSome result (λ range.
+        GivesRange slots.now plan.now count range.first range.last) }
+{
+    let bounds = bounds_of(plan)?;
+    let from = integer_at_each(slots, bounds.left, last)?;
+    let to = integer_at_each(slots, bounds.right, last)?;
+    if is_allowed(from, to) {
+        Some(Range {
+            first: from,
+            last: to,
+        })
+    } else {
+        None
+    }
+}
+
+/// The value of a predicate that asks whether `position()` is in a range, whichever stands first.
+fn within(slots: &[SlotValue], predicate: &Plan, last: i64) -> Option<ByPosition>
+    ensures { (count : ℕ) → last ≡ pos count → IfSome result (λ value.
+        IsPositional slots.now predicate.now count value) }
+{
+    let asked = equated(predicate)?;
+    if is_position(asked.left) {
+        let range = range_at_each(slots, asked.right, last)?;
+        return Some(ByPosition::Within(range.first, range.last));
+    }
+    if is_position(asked.right) {
+        let range = range_at_each(slots, asked.left, last)?;
+        return Some(ByPosition::Within(range.first, range.last));
+    }
+    None
+}
+
 /// The value of a predicate on these items that is one integer at each of them, or a comparison of
-/// `position()` with such an integer; `None` for another one.
+/// `position()` with such an integer or with a range of them; `None` for another one.
 pub fn positional(slots: &[SlotValue], predicate: &Plan, items: &[Item]) -> Option<ByPosition>
     ensures { IfSome result (λ value.
         IsPositional slots.now predicate.now (length items.now) value) }
@@ -191,7 +309,10 @@ pub fn positional(slots: &[SlotValue], predicate: &Plan, items: &[Item]) -> Opti
     if let Some(number) = integer_at_each(slots, predicate, last) {
         return Some(ByPosition::At(number));
     }
-    compared(slots, predicate, last)
+    if let Some(value) = compared(slots, predicate, last) {
+        return Some(value);
+    }
+    within(slots, predicate, last)
 }
 
 /// Whether a predicate keeps the item at a position, from 1.
@@ -206,6 +327,10 @@ fn passes(value: &ByPosition, position: usize) -> Result<bool, Code>
         ByPosition::Compared(operator, number) => {
             let position = Atom::Int(position as i64);
             compare_value(*operator, &position, &Atom::Int(*number))
+        }
+        ByPosition::Within(first, last) => {
+            let position = position as i64;
+            Ok(*first <= position && position <= *last)
         }
     }
 }
@@ -254,6 +379,18 @@ fn compared_span(operator: CompOp, number: i64, count: usize) -> Option<Span>
     }
 }
 
+/// Those of so many items whose position is one of the integers from one number to another.
+fn range_span(first: i64, last: i64, count: usize) -> Span
+    ensures { KeepsSpan (by_position.Within first last) count result }
+{
+    let start = place_of(first, count);
+    let end = place_of(last, count);
+    Span {
+        from: start.from,
+        to: end.to.max(start.from),
+    }
+}
+
 /// Those of so many items that a predicate with this value keeps, where they are one span.
 fn span_of(value: &ByPosition, count: usize) -> Option<Span>
     ensures { IfSome result (λ span. KeepsSpan value.now count span) }
@@ -262,6 +399,7 @@ fn span_of(value: &ByPosition, count: usize) -> Option<Span>
         ByPosition::At(number) => Some(place_of(*number, count)),
         ByPosition::Same(_) => None,
         ByPosition::Compared(operator, number) => compared_span(*operator, *number, count),
+        ByPosition::Within(first, last) => Some(range_span(*first, *last, count)),
     }
 }
 

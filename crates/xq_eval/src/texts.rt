@@ -15,7 +15,7 @@ ghost use Rattle.xq_operators.specs.Views.{after_double_slash, frame_at, tuple_a
 ghost use Rattle.xq_joins.specs.Equalities.{IsNodeOf, IsTextTest, IsTextTestIn, IsTreeAt, IsValueTest};
 ghost use Rattle.xq_joins.specs.Keyed.{IsKeyedTest};
 ghost use Rattle.xq_joins.specs.Keys.{IsNode};
-ghost use Rattle.xq_eval.specs.private.Texts.{GivesFound};
+ghost use Rattle.xq_eval.specs.private.Texts.{GivesFound, IsValueStep};
 
 use std::alloc::Global;
 use xq_atoms::{Fault, Want};
@@ -24,7 +24,7 @@ use xq_joins::{
     only_text_test, text_test, value_test,
 };
 use xq_meaning::{Plan, Test};
-use xq_operators::{EvalContext, double_slash};
+use xq_operators::{EvalContext, double_slash, scan};
 use xq_sources::TreeStore;
 use xq_trees::{Axis, Item, Items};
 use xq_tuples::SlotValue;
@@ -269,4 +269,72 @@ pub fn below_by_texts<W: TreeStore>(
     };
     let kept = double_slash_by_key(alloc, world, items, chosen.test, &test)?;
     Ok(Some(kept))
+}
+
+/// A step to children with one predicate; `None` for another plan.
+fn chosen_child(part: &Plan) -> Option<ChosenChild<'_>>
+    ensures { IfSome result (λ child. part.now
+        ≡ plan_of.Step Axis.Child child.test.now (child.predicate.now ∷ [])) }
+{
+    let Plan::Step(direction, test, predicates) = part else {
+        return None;
+    };
+    let Axis::Child = direction else {
+        return None;
+    };
+    let [predicate] = predicates.as_slice() else {
+        return None;
+    };
+    Some(ChosenChild { test, predicate })
+}
+
+/// The step to children that the part is, whose only predicate compares an attribute with a text as
+/// values, where all items are nodes of trees: it refuses none of their children.
+pub fn value_step<'a, W: TreeStore>(
+    alloc: Global,
+    world: &mut W,
+    slots: &'a [SlotValue],
+    part: &'a Plan,
+    items: &[Item],
+) -> Result<Option<TextStep<'a>>, Want>
+    ensures step { IfOk result (λ found. IfSome found (λ step.
+        IsValueStep (values_of slots.now) step part.now)) }
+    ensures trees { W.is_clean world.new → IfOk result (λ found. IfSome found (λ _.
+        AllByRecursion (IsNodeOf (IsTreeAt (W.forest world.old))) (map item_view items.now))) }
+    ensures keeps { W.forest world.new ≡ W.forest world.old }
+    ensures was_clean { W.is_clean world.new → W.is_clean world.old }
+{
+    let Some(child) = chosen_child(part) else {
+        return Ok(None);
+    };
+    let Some(predicate) = value_test_at(alloc, world, slots, child.predicate, items)? else {
+        return Ok(None);
+    };
+    Ok(Some(TextStep {
+        test: child.test,
+        predicate,
+    }))
+}
+
+/// What a step to children with that predicate leads to from all items, which are nodes of trees:
+/// one scan, and then the test (XQuery 3.1, section 3.3.1.1).
+pub fn children_by_value<W: TreeStore>(
+    alloc: Global,
+    world: &mut W,
+    items: &[Item],
+    step: TextStep<'_>,
+) -> Result<Items, Fault>
+    ensures goes { Goes (W.forest world.old) (W.forest world.new) (W.is_clean world.old)
+        (W.is_clean world.new) }
+    ensures gives { W.is_clean world.new → AreIn (W.forest world.old) (map item_view items.now)
+        → AllByRecursion (IsNodeOf (IsTreeAt (W.forest world.old))) (map item_view items.now)
+        → (slots : Tuple ItemView) (p : PlanLem) (frame : Meant)
+        → IsValueTest slots step.entry.predicate p
+        → frame.env ≡ tuple_at (W.forest world.old) slots
+        → GivesSequence (Forms.slash frame (items_at (W.forest world.old) (map item_view items.now))
+        (Forms.step Axis.Child step.entry.test.now (plan_mean p ∷ [])) (W.forest world.old))
+        (W.forest world.new) result }
+{
+    let found = scan(alloc, world, items, Axis::Child, step.test)?;
+    Ok(keep_by_text(alloc, world, &found, step.predicate)?)
 }

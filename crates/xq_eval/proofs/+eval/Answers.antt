@@ -79,12 +79,17 @@ use Rattle.xq_eval.specs.private.Scanning.{IsLiteral, IsScan}
 use Rattle.xq_eval.proofs.DocumentScans.{other_form, literal_scans, call_scans, path_scans, are_scans, not_each, no_each, grown_more, not_grown, grown_from, grown_on, once, literal_value, document_value}
 use Rattle.xq_eval.proofs.FirstScans.{all_drop, most_drop, slice_left, node_there, node_of, read_of, after_scans, read_after}
 use Rattle.xq_eval.proofs.TextSteps.{slashes_then}
-use Rattle.xq_eval.specs.private.Texts.{GivesFound}
+use Rattle.xq_eval.specs.private.Texts.{GivesFound, IsValueStep}
+use Rattle.xq_eval.specs.declared.texts.TextStep.{TextStep}
+use Rattle.xq_joins.specs.Equalities.{IsNodeOf, IsTreeAt}
 use Rattle.xq_eval.proofs.Counted.{only_text, first_same}
 use Rattle.xq_operators.specs.Reads.{IsAtom}
 use Rattle.xq_expressions.specs.declared.operators.AllowingEmpty.TheVariants.{No}
 use Rattle.xq_eval.proofs.FlatKeys.{from_done, collected_is, for_each_length, are_rows, order_is, order_stops}
 use Rattle.xq_eval.proofs.LoneFor.{lone_for_is}
+use Rattle.xq_eval.specs.declared.lent.FilteredVariable.{FilteredVariable}
+use Rattle.xq_eval.specs.private.Lent.{Filters}
+use Rattle.xq_eval.proofs.LentFilters.{lent_filters, filters_first, filters_then}
 use Rattle.xq_eval.proofs.+eval.Goals as goal
 
 pub evaluation::evaluate-returns-in-ContextItem-clause-gives : goal.evaluation::evaluate-returns-in-ContextItem-clause-gives
@@ -1519,12 +1524,6 @@ paths::later_steps-returns-clause-reads g t c = λ clean all tree h.
     let i = c.loop-index.invariant in
     grown_more (i.reads clean all tree h).1 (mul-le-mul_right (rows_of (g.W.TreeSource.forest c.args.world.now) tree) i.within)
 
-pub paths::next_items-returns-in_err-only_nodes-in-Each-clause-reads : goal.paths::next_items-returns-in_err-only_nodes-in-Each-clause-reads
-paths::next_items-returns-in_err-only_nodes-in-Each-clause-reads g t c = λ clean scan tree h. absurd (not_each c.args.step.now c.in-Each.part c.in-Each.is scan)
-
-pub paths::next_items-returns-in_err-found-in-Each-clause-reads : goal.paths::next_items-returns-in_err-found-in-Each-clause-reads
-paths::next_items-returns-in_err-found-in-Each-clause-reads g t c = λ clean scan tree h. absurd (not_each c.args.step.now c.in-Each.part c.in-Each.is scan)
-
 pub paths::next_items-returns-in-Each-clause-reads : goal.paths::next_items-returns-in-Each-clause-reads
 paths::next_items-returns-in-Each-clause-reads g t c = λ clean scan tree h. absurd (not_each c.args.step.now c.in-Each.part c.in-Each.is scan)
 
@@ -1547,43 +1546,6 @@ pub paths::later_steps-returns-clause-gives : goal.paths::later_steps-returns-cl
 paths::later_steps-returns-clause-gives g t c = λ clean inside rest_in.
     let old = g.W.TreeSource.forest c.args.world.now in
     turns_end _ _ _ c.loop-index.invariant.turns (ap (map plan_step_mean) (drop_all (c.loop-index.index + (if c.loop-index.is_taken then 1 else 0)) c.args.steps.now (omega arith))) clean (inside, rest_in)
-
-pub paths::next_items-returns-in_err-only_nodes-in-Each-clause-gives : goal.paths::next_items-returns-in_err-only_nodes-in-Each-clause-gives
-paths::next_items-returns-in_err-only_nodes-in-Each-clause-gives g t c = λ clean inside items_in.
-    let f = g.W.TreeSource.forest c.args.world.now in
-    let held = c.args.frame in
-    let frame = frame_at f held in
-    let items = item_views c.args.items in
-    let code = c.in_err-only_nodes-in-Each.field-0.0 in
-    let d : map item_view c.deref.result.now ≡ items = ap (map item_view) c.deref.ensures.value in
-    handed_on item_views items_at AreIn _ f (OfCode code) c.from_residual.result c.from_residual.ensures.1
-    (ap (λ k. (plan_step_mean k frame (items_at f items) f).0) c.in-Each.is ∙ ap (λ m. (m frame (items_at f items) f).0) (step-Each c.in-Each.part)
-    ∙ slash_err frame (items_at f items) (plan_mean c.in-Each.part) f code (ap (λ xs. forget (all_nodes XPTY0019 (items_at f xs))) (sym d) ∙ c.in_err-only_nodes-in-Each.ensures f))
-
-pub paths::next_items-returns-in_err-found-in-Each-clause-gives : goal.paths::next_items-returns-in_err-found-in-Each-clause-gives
-paths::next_items-returns-in_err-found-in-Each-clause-gives g t c = λ clean inside items_in.
-    let f = g.W.TreeSource.forest c.args.world.now in
-    let held = c.args.frame in
-    let frame = frame_at f held in
-    let items = item_views c.args.items in
-    let f' = g.W.TreeSource.forest c.each.new.world in
-    let e = c.in_err-found-in-Each.field-0.0 in
-    let d : map item_view c.deref.result.now ≡ items = ap (map item_view) c.deref.ensures.value in
-    let d' : map item_view c.deref-in-Each.result.now ≡ items = ap (map item_view) c.deref-in-Each.ensures.value in
-    let p = plan_mean c.in-Each.part in
-    let meant : plan_step_mean c.args.step.now frame (items_at f items) f ≡ go_on (collected (λ focus. p (Forms.in_focus frame focus)) (focuses (items_at f (map item_view c.deref-in-Each.result.now))) f) (λ ys. on_trees (λ trees. gathered trees ys)) =
-    ap (λ k. plan_step_mean k frame (items_at f items) f) c.in-Each.is ∙ ap (λ m. m frame (items_at f items) f) (step-Each c.in-Each.part)
-    ∙ slash_ok frame (items_at f items) p f (ap (λ xs. forget (all_nodes XPTY0019 (items_at f xs))) (sym d) ∙ c.in_ok-only_nodes-in-Each.ensures f)
-    ∙ ap (λ xs. go_on (collected (λ focus. p (Forms.in_focus frame focus)) (focuses (items_at f xs)) f) (λ ys. on_trees (λ trees. gathered trees ys))) (sym d') in
-    subst (λ o. GivesSequence o f' c.from_residual-in_err-found-in-Each.result) (sym meant)
-    (handed_on item_views items_at AreIn _ f' e c.from_residual-in_err-found-in-Each.result c.from_residual-in_err-found-in-Each.ensures.1
-    (go_on_stop item_views items_at AreIn item_views items_at AreIn _ (λ ys. on_trees (λ trees. gathered trees ys)) f' e (c.in_err-found-in-Each.ensures.gives clean inside (subst (AreIn f) (sym d') items_in))))
-
-pub paths::next_items-returns-in_err-only_nodes-in-Each-clause-goes : goal.paths::next_items-returns-in_err-only_nodes-in-Each-clause-goes
-paths::next_items-returns-in_err-only_nodes-in-Each-clause-goes g t c = stays _ _
-
-pub paths::next_items-returns-in_err-found-in-Each-clause-goes : goal.paths::next_items-returns-in_err-found-in-Each-clause-goes
-paths::next_items-returns-in_err-found-in-Each-clause-goes g t c = c.in_err-found-in-Each.ensures.goes
 
 pub paths::each-loop-index-preserved : goal.paths::each-loop-index-preserved
 paths::each-loop-index-preserved g t c =
@@ -2138,23 +2100,87 @@ evaluation::call_value-returns-clause-reads g t c = λ clean inside doc text is.
 pub paths::next_items-returns-in-Each-clause-gives : goal.paths::next_items-returns-in-Each-clause-gives
 paths::next_items-returns-in-Each-clause-gives g t c = λ clean inside items_in.
     let f = g.W.TreeSource.forest c.args.world.now in
-    let held = c.args.frame in
-    let frame = frame_at f held in
+    let frame = frame_at f c.args.frame in
     let items = item_views c.args.items in
-    let f' = g.W.TreeSource.forest c.each.new.world in
+    let f' = g.W.TreeSource.forest c.after_slash.new.world in
     let d : map item_view c.deref.result.now ≡ items = ap (map item_view) c.deref.ensures.value in
-    let d' : map item_view c.deref-in-Each.result.now ≡ items = ap (map item_view) c.deref-in-Each.ensures.value in
-    let p = plan_mean c.in-Each.part in
-    let found = c.in_ok-found-in-Each.ensures.gives clean inside (subst (AreIn f) (sym d') items_in) in
-    let meant : plan_step_mean c.args.step.now frame (items_at f items) f ≡ on_trees (λ trees. gathered trees (items_at f' (item_views c.in_ok-found-in-Each.found))) f' =
-    ap (λ k. plan_step_mean k frame (items_at f items) f) c.in-Each.is ∙ ap (λ m. m frame (items_at f items) f) (step-Each c.in-Each.part)
-    ∙ slash_ok frame (items_at f items) p f (ap (λ xs. forget (all_nodes XPTY0019 (items_at f xs))) (sym d) ∙ c.in_ok-only_nodes-in-Each.ensures f)
-    ∙ ap (λ xs. go_on (collected (λ focus. p (Forms.in_focus frame focus)) (focuses (items_at f xs)) f) (λ ys. on_trees (λ trees. gathered trees ys))) (sym d')
-    ∙ ap (λ o. go_on o (λ ys. on_trees (λ trees. gathered trees ys))) found.1 in
-    subst (λ o. GivesSequence o f' c.gather.result) (sym meant) (c.gather.ensures f' found.0)
+    let part = plan_mean c.in-Each.part in
+    subst (λ o. GivesSequence o f' c.after_slash.result)
+    (sym (ap (λ k. plan_step_mean k frame (items_at f items) f) c.in-Each.is ∙ ap (λ m. m frame (items_at f items) f) (step-Each c.in-Each.part) ∙ ap (λ xs. Forms.slash frame (items_at f xs) part f) (sym d)))
+    (c.after_slash.ensures.gives clean inside (subst (AreIn f) (sym d) items_in))
 
 pub paths::next_items-returns-in-Each-clause-goes : goal.paths::next_items-returns-in-Each-clause-goes
-paths::next_items-returns-in-Each-clause-goes g t c = c.in_ok-found-in-Each.ensures.goes
+paths::next_items-returns-in-Each-clause-goes g t c = c.after_slash.ensures.goes
+
+pub paths::after_slash-returns-in-Some-clause-gives : goal.paths::after_slash-returns-in-Some-clause-gives
+paths::after_slash-returns-in-Some-clause-gives g t c = λ clean inside items_in.
+    let f = g.W.TreeSource.forest c.args.world.now in
+    let f' = g.W.TreeSource.forest c.children_by_value.new.world in
+    let frame = frame_at f c.args.frame in
+    let slots = values_of c.args.frame.slots.now in
+    let views = map item_view c.args.items.now in
+    let part = c.args.part.now in
+    let step = c.in-Some.step in
+    let of = step.test.now in
+    let result = c.children_by_value.result in
+    let is : IsValueStep slots step part = subst (λ r. IfSome r (λ (s : TextStep). IsValueStep slots s part)) c.in-Some.is c.in_ok-step.ensures.step in
+    let trees : AllByRecursion (IsNodeOf (IsTreeAt f)) views = subst (λ r. IfSome r (λ (s : TextStep). AllByRecursion (IsNodeOf (IsTreeAt f)) views)) c.in-Some.is (c.in_ok-step.ensures.trees (c.children_by_value.ensures.goes.was_clean clean)) in
+    let p = is.predicate in
+    let given = subst (λ (h : List Tree). AreIn h views → AllByRecursion (IsNodeOf (IsTreeAt h)) views → frame.env ≡ tuple_at h slots → GivesSequence (Forms.slash frame (items_at h views) (Forms.step Child of (plan_mean p ∷ [])) h) f' result) c.value_step.ensures.keeps
+    (λ a b d. c.children_by_value.ensures.gives clean a b slots p frame is.is_test d) items_in trees refl in
+    subst (λ (m : Meaning). GivesSequence (Forms.slash frame (items_at f views) m f) f' result) (sym (ap plan_mean is.part_is ∙ plan-Step Child of (p ∷ []))) given
+
+pub paths::after_slash-returns-in-Some-clause-goes : goal.paths::after_slash-returns-in-Some-clause-goes
+paths::after_slash-returns-in-Some-clause-goes g t c = goes_on_to (same_goes c.value_step.ensures.keeps c.value_step.ensures.was_clean) c.children_by_value.ensures.goes
+
+pub paths::after_slash-returns-in_err-step-clause-goes : goal.paths::after_slash-returns-in_err-step-clause-goes
+paths::after_slash-returns-in_err-step-clause-goes g t c = same_goes c.value_step.ensures.keeps c.value_step.ensures.was_clean
+
+pub paths::after_slash-returns-in_err-only_nodes-clause-gives : goal.paths::after_slash-returns-in_err-only_nodes-clause-gives
+paths::after_slash-returns-in_err-only_nodes-clause-gives g t c = λ clean inside items_in.
+    let f = g.W.TreeSource.forest c.args.world.now in
+    let f1 = g.W.TreeSource.forest c.value_step.new.world in
+    let code = c.in_err-only_nodes.field-0.0 in
+    handed_on item_views items_at AreIn _ f1 (OfCode code) c.from_residual-in_err-only_nodes.result c.from_residual-in_err-only_nodes.ensures.1
+    (slash_err (frame_at f c.args.frame) (items_at f (map item_view c.args.items.now)) (plan_mean c.args.part.now) f code (c.in_err-only_nodes.ensures f))
+
+pub paths::after_slash-returns-in_err-only_nodes-clause-goes : goal.paths::after_slash-returns-in_err-only_nodes-clause-goes
+paths::after_slash-returns-in_err-only_nodes-clause-goes g t c = same_goes c.value_step.ensures.keeps c.value_step.ensures.was_clean
+
+pub paths::after_slash-returns-in_err-found-clause-gives : goal.paths::after_slash-returns-in_err-found-clause-gives
+paths::after_slash-returns-in_err-found-clause-gives g t c = λ clean inside items_in.
+    let f = g.W.TreeSource.forest c.args.world.now in
+    let held = c.args.frame in
+    let frame = frame_at f held in
+    let views = map item_view c.args.items.now in
+    let f' = g.W.TreeSource.forest c.each.new.world in
+    let e = c.in_err-found.field-0.0 in
+    let p = plan_mean c.args.part.now in
+    let given = subst (λ (h : List Tree). FrameIn h held → AreIn h views → GivesSequence (collected (λ (s : Spot). p (Forms.in_focus (frame_at h held) s)) (focuses (items_at h views)) h) f' (Err e)) c.value_step.ensures.keeps
+    (λ a b. c.in_err-found.ensures.gives clean a b) inside items_in in
+    subst (λ o. GivesSequence o f' c.from_residual-in_err-found.result) (sym (slash_ok frame (items_at f views) p f (c.in_ok-only_nodes.ensures f)))
+    (handed_on item_views items_at AreIn _ f' e c.from_residual-in_err-found.result c.from_residual-in_err-found.ensures.1
+    (go_on_stop item_views items_at AreIn item_views items_at AreIn _ (λ ys. on_trees (λ trees. gathered trees ys)) f' e given))
+
+pub paths::after_slash-returns-in_err-found-clause-goes : goal.paths::after_slash-returns-in_err-found-clause-goes
+paths::after_slash-returns-in_err-found-clause-goes g t c = goes_on_to (same_goes c.value_step.ensures.keeps c.value_step.ensures.was_clean) c.in_err-found.ensures.goes
+
+pub paths::after_slash-returns-clause-gives : goal.paths::after_slash-returns-clause-gives
+paths::after_slash-returns-clause-gives g t c = λ clean inside items_in.
+    let f = g.W.TreeSource.forest c.args.world.now in
+    let held = c.args.frame in
+    let frame = frame_at f held in
+    let views = map item_view c.args.items.now in
+    let f' = g.W.TreeSource.forest c.each.new.world in
+    let found = item_views c.in_ok-found.found in
+    let p = plan_mean c.args.part.now in
+    let given = subst (λ (h : List Tree). FrameIn h held → AreIn h views → AreIn f' found × (collected (λ (s : Spot). p (Forms.in_focus (frame_at h held) s)) (focuses (items_at h views)) h ≡ (Ok (items_at f' found), f'))) c.value_step.ensures.keeps
+    (λ a b. c.in_ok-found.ensures.gives clean a b) inside items_in in
+    let meant = slash_ok frame (items_at f views) p f (c.in_ok-only_nodes.ensures f) ∙ ap (λ o. go_on o (λ ys. on_trees (λ trees. gathered trees ys))) given.1 in
+    subst (λ o. GivesSequence o f' c.gather.result) (sym meant) (c.gather.ensures f' given.0)
+
+pub paths::after_slash-returns-clause-goes : goal.paths::after_slash-returns-clause-goes
+paths::after_slash-returns-clause-goes g t c = goes_on_to (same_goes c.value_step.ensures.keeps c.value_step.ensures.was_clean) c.in_ok-found.ensures.goes
 
 pub paths::next_items-returns-clause-gives : goal.paths::next_items-returns-clause-gives
 paths::next_items-returns-clause-gives g t c = λ clean inside items_in.
@@ -3099,6 +3125,39 @@ expressions::filtered-returns-in_err-atom-clause-goes g t c = stays _ _
 pub expressions::filtered-returns-in_err-single-clause-goes : goal.expressions::filtered-returns-in_err-single-clause-goes
 expressions::filtered-returns-in_err-single-clause-goes g t c = stays _ _
 
+pub expressions::filtered-returns-in-Some-filtered_variable-clause-gives : goal.expressions::filtered-returns-in-Some-filtered_variable-clause-gives
+expressions::filtered-returns-in-Some-filtered_variable-clause-gives g t c = λ clean inside.
+    let f = g.W.TreeSource.forest c.args.world.now in
+    let held = c.args.frame in
+    let f' = g.W.TreeSource.forest c.keep.new.world in
+    let f'' = g.W.TreeSource.forest c.filter.new.world in
+    let found = c.in-Some-filtered_variable.found in
+    let is = lent_filters held.slots.now c.args.start.now c.args.predicates.now c.filtered_variable.result found c.in-Some-filtered_variable.is c.filtered_variable.ensures in
+    let grows = c.in_ok-kept.ensures.goes.grows in
+    let kept = item_views c.in_ok-kept.kept in
+    let first = c.in_ok-kept.ensures.gives (c.filter.ensures.goes.was_clean clean) inside (is.items_in f inside.slots_in) in
+    let second = c.filter.ensures.gives clean (frame_in_grown grows held inside) first.0 in
+    let whole = filters_then held.slots.now c.args.start.now c.args.predicates.now found is f f' (frame_at f held) refl (items_at f' kept) first.1 in
+    subst (λ o. GivesSequence o f'' c.filter.result) (sym (whole ∙ ap (λ fr. in_turn (Forms.filtered fr) (items_at f' kept) (map plan_mean found.rest.now) f') (sym (frame_grown grows held inside)))) second
+
+pub expressions::filtered-returns-in-Some-filtered_variable-clause-goes : goal.expressions::filtered-returns-in-Some-filtered_variable-clause-goes
+expressions::filtered-returns-in-Some-filtered_variable-clause-goes g t c = goes_on_to c.in_ok-kept.ensures.goes c.filter.ensures.goes
+
+pub expressions::filtered-returns-in_err-kept-clause-gives : goal.expressions::filtered-returns-in_err-kept-clause-gives
+expressions::filtered-returns-in_err-kept-clause-gives g t c = λ clean inside.
+    let f = g.W.TreeSource.forest c.args.world.now in
+    let held = c.args.frame in
+    let frame = frame_at f held in
+    let f' = g.W.TreeSource.forest c.keep.new.world in
+    let found = c.in-Some-filtered_variable.found in
+    let is = lent_filters held.slots.now c.args.start.now c.args.predicates.now c.filtered_variable.result found c.in-Some-filtered_variable.is c.filtered_variable.ensures in
+    let next = λ (xs : List Item). in_turn (Forms.filtered frame) xs (map plan_mean found.rest.now) in
+    cut item_views items_at AreIn item_views items_at AreIn _ (Forms.filtered frame (items_at f (map item_view found.items.now)) (plan_mean found.first.now) f) next f' c.in_err-kept.field-0.0 c.from_residual-in_err-kept.result
+    (filters_first held.slots.now c.args.start.now c.args.predicates.now found is f frame refl) c.from_residual-in_err-kept.ensures.1 (c.in_err-kept.ensures.gives clean inside (is.items_in f inside.slots_in))
+
+pub expressions::filtered-returns-in_err-kept-clause-goes : goal.expressions::filtered-returns-in_err-kept-clause-goes
+expressions::filtered-returns-in_err-kept-clause-goes g t c = c.in_err-kept.ensures.goes
+
 pub expressions::filtered-returns-clause-gives : goal.expressions::filtered-returns-clause-gives
 expressions::filtered-returns-clause-gives g t c = λ clean inside.
     let f = g.W.TreeSource.forest c.args.world.now in
@@ -3106,8 +3165,8 @@ expressions::filtered-returns-clause-gives g t c = λ clean inside.
     let frame = frame_at f held in
     let f' = g.W.TreeSource.forest c.evaluate.new.world in
     let grows = c.in_ok-items.ensures.goes.grows in
-    let first = c.in_ok-items.ensures.gives (c.filter.ensures.goes.was_clean clean) inside in
-    let second = c.filter.ensures.gives clean (frame_in_grown grows held inside) first.0 in
+    let first = c.in_ok-items.ensures.gives (c.filter-2.ensures.goes.was_clean clean) inside in
+    let second = c.filter-2.ensures.gives clean (frame_in_grown grows held inside) first.0 in
     let value : plan_mean c.args.start.now frame f ≡ (Ok (items_at f' (item_views c.in_ok-items.items)), f') = first.1 in
     rw (value, ← frame_grown grows held inside) second
 
@@ -3124,7 +3183,7 @@ pub expressions::filtered-returns-in_err-items-clause-goes : goal.expressions::f
 expressions::filtered-returns-in_err-items-clause-goes g t c = c.in_err-items.ensures.goes
 
 pub expressions::filtered-returns-clause-goes : goal.expressions::filtered-returns-clause-goes
-expressions::filtered-returns-clause-goes g t c = goes_on_to c.in_ok-items.ensures.goes c.filter.ensures.goes
+expressions::filtered-returns-clause-goes g t c = goes_on_to c.in_ok-items.ensures.goes c.filter-2.ensures.goes
 
 pub expressions::arrow-returns-clause-gives : goal.expressions::arrow-returns-clause-gives
 expressions::arrow-returns-clause-gives g t c = λ clean inside.
@@ -3845,8 +3904,26 @@ expressions::filtered-evaluate-requires g t c = λ κs live.
     let below : 8 * size-Plan c.args.start.now + 3 < t = omega (arith, all) in
     (below, live)
 
+pub expressions::filtered-keep-requires : goal.expressions::filtered-keep-requires
+expressions::filtered-keep-requires g t c = λ κs live.
+    let found = c.in-Some-filtered_variable.found in
+    let all : 8 * max (size-Plan c.args.start.now) (most size-Plan c.args.predicates.now) + 9 ≡ t = c.decreases in
+    let is = lent_filters c.args.frame.slots.now c.args.start.now c.args.predicates.now c.filtered_variable.result found c.in-Some-filtered_variable.is c.filtered_variable.ensures in
+    let parts : most size-Plan c.args.predicates.now ≡ max (size-Plan found.first.now) (most size-Plan found.rest.now) = ap (most size-Plan) is.predicates_are in
+    let below : 8 * size-Plan found.first.now + 5 < t = omega (arith, all, parts) in
+    (below, live)
+
 pub expressions::filtered-filter-requires : goal.expressions::filtered-filter-requires
 expressions::filtered-filter-requires g t c = λ κs live.
+    let found = c.in-Some-filtered_variable.found in
+    let all : 8 * max (size-Plan c.args.start.now) (most size-Plan c.args.predicates.now) + 9 ≡ t = c.decreases in
+    let is = lent_filters c.args.frame.slots.now c.args.start.now c.args.predicates.now c.filtered_variable.result found c.in-Some-filtered_variable.is c.filtered_variable.ensures in
+    let parts : most size-Plan c.args.predicates.now ≡ max (size-Plan found.first.now) (most size-Plan found.rest.now) = ap (most size-Plan) is.predicates_are in
+    let below : 8 * most size-Plan found.rest.now + 6 < t = omega (arith, all, parts) in
+    (below, live)
+
+pub expressions::filtered-filter-requires-2 : goal.expressions::filtered-filter-requires-2
+expressions::filtered-filter-requires-2 g t c = λ κs live.
     let all : 8 * max (size-Plan c.args.start.now) (most size-Plan c.args.predicates.now) + 9 ≡ t = c.decreases in
     let below : 8 * most size-Plan c.args.predicates.now + 6 < t = omega (arith, all) in
     (below, live)

@@ -350,6 +350,9 @@ decreases-paths::later_steps g a = 8 * goal.size-paths::later_steps g a + 7
 abbrev pub decreases-paths::next_items : goal.decreases-paths::next_items
 decreases-paths::next_items g a = 8 * goal.size-paths::next_items g a + 6
 
+abbrev pub decreases-paths::after_slash : goal.decreases-paths::after_slash
+decreases-paths::after_slash g a = 8 * goal.size-paths::after_slash g a + 7
+
 abbrev pub decreases-paths::map_list : goal.decreases-paths::map_list
 decreases-paths::map_list g a = 8 * goal.size-paths::map_list g a + 7
 

@@ -1,5 +1,5 @@
 -- Predicates whose value at an item its position tells.
-use Rattle.std.specs.Prelude.{◌≡◌, ℕ, ◌+◌, ◌<◌, ◌≤◌, ℤ, pos, ◌<ℤ◌, List, [], ◌∷◌, ◌⊎◌, Bool, ◌&&◌, nat_le, nat_lt, Ok}
+use Rattle.std.specs.Prelude.{◌≡◌, ℕ, ◌+◌, ◌<◌, ◌≤◌, ℤ, pos, ◌<ℤ◌, List, [], ◌∷◌, ◌⊎◌, Bool, ◌&&◌, nat_le, nat_lt, int_le, Ok}
 use Rattle.xq_atoms.specs.Atom.{Integer, Boolean}
 use Rattle.xq_atoms.specs.Compare.{key, key_cmp, holds}
 use Rattle.xq_trees.specs.Items.{ItemView, Value, item_views}
@@ -14,12 +14,12 @@ use Rattle.xq_meaning.specs.declared.plans.Plan.{Plan}
 use Rattle.xq_meaning.specs.declared.plans.Plan.TheVariants as plan
 use Rattle.xq_meaning.specs.Forms as Forms
 use Rattle.xq_meaning.specs.Functions.{Focus}
-use Rattle.xq_meaning.specs.Operators.{keeps}
+use Rattle.xq_meaning.specs.Operators.{keeps, integers_from, how_many}
 use Rattle.xq_meaning.specs.PlanMeaning.{Frame, plan_mean}
 use Rattle.xq_meaning.specs.Readings.{items_at}
 use Rattle.xq_operators.specs.Views.{tuple_at}
 use Rattle.xq_eval.specs.declared.positions.ByPosition.{ByPosition}
-use Rattle.xq_eval.specs.declared.positions.ByPosition.TheVariants.{At, Same, Compared}
+use Rattle.xq_eval.specs.declared.positions.ByPosition.TheVariants.{At, Same, Compared, Within}
 use Rattle.xq_eval.specs.declared.positions.Span.{Span}
 
 -- the value at a position
@@ -28,6 +28,7 @@ value_there (At number) n = Value (Integer number) ∷ []
 value_there (Same value) n = item_views value
 value_there (Compared op number) n =
     Value (Boolean (holds op (key_cmp (key (Integer (pos n))) (key (Integer number))))) ∷ []
+value_there (Within first last) n = Value (Boolean (int_le first (pos n) && int_le (pos n) last)) ∷ []
 
 -- over these trees, in this frame, wherever there are so many items, the plan has this value at
 -- each of them, and does nothing else
@@ -41,6 +42,14 @@ pub record IsPositionalIn (trees : List Tree) (frame : Frame) (p : Plan) (last :
 abbrev pub IsPositional : List SlotValue → Plan → ℕ → ByPosition → Type 0
 IsPositional slots p last value = (trees : List Tree) (frame : Frame)
     → frame.env ≡ tuple_at trees (values_of slots) → IsPositionalIn trees frame p last value
+
+-- wherever the variables have the values of these slots, and there are so many items, the plan gives
+-- the integers from one number to another at each of them
+abbrev pub GivesRange : List SlotValue → Plan → ℕ → ℤ → ℤ → Type 0
+GivesRange slots p count first last = (trees : List Tree) (frame : Frame)
+    → frame.env ≡ tuple_at trees (values_of slots) → (focus : Focus) → focus.last ≡ count
+    → plan_mean p (Forms.in_focus frame focus) trees
+    ≡ (Ok (integers_from first (how_many first last)), trees)
 
 -- the plan compares two others, by pairs of their values or by their values
 abbrev pub Compares : Relation → Plan → Plan → Plan → Type 0

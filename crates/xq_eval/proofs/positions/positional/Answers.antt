@@ -13,7 +13,13 @@ returns-in-Some c =
     let there = subst (λ found. IfSome found (λ n. IsPositional c.args.slots.now c.args.predicate.now count (At n))) c.in-Some.is (c.integer_at_each.ensures count all) in
     subst (λ n. IsPositional c.args.slots.now c.args.predicate.now count (At n)) (sym same) there
 
+pub returns-in-Some-compared : goal.returns-in-Some-compared
+returns-in-Some-compared c =
+    let count = length c.args.items.now in
+    let all : to_z w64 count ≡ pos count = search rules in
+    subst (λ found. IfSome found (λ value. IsPositional c.args.slots.now c.args.predicate.now count value)) c.in-Some-compared.is (c.compared.ensures count all)
+
 pub returns : goal.returns
 returns c =
     let all : to_z w64 (length c.args.items.now) ≡ pos (length c.args.items.now) = search rules in
-    c.compared.ensures (length c.args.items.now) all
+    c.within.ensures (length c.args.items.now) all
