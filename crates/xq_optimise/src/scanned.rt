@@ -49,6 +49,36 @@ fn is_judged_at_once(known: &[Held], predicates: &[Plan]) -> bool
     have_comparison(predicates) && are_item_tests(known, predicates)
 }
 
+/// One predicate alone.
+fn alone(alloc: Global, predicate: Plan) -> Result<Items<Plan>, AllocError>
+    ensures { IfOk result (λ found. found ≡ predicate ∷ []) }
+{
+    let mut predicates = Items::new(alloc);
+    predicates.push(predicate)?;
+    Ok(predicates)
+}
+
+/// The path, and a step after it.
+fn longer(alloc: Global, path: Taken, step: PlanStep) -> Result<Plan, AllocError>
+    ensures { IfOk result (λ found.
+        found ≡ plan_of.Path path.start (path.steps ++ step ∷ [])) }
+{
+    let mut steps = path.steps;
+    steps.push(step)?;
+    Ok(Plan::Path(Boxed::new(alloc, path.start)?, steps))
+}
+
+/// What the predicates keep of a part, and no step yet.
+fn filtered(alloc: Global, start: Plan, predicates: Items<Plan>) -> Result<Taken, AllocError>
+    ensures { IfOk result (λ found.
+        (found.steps ≡ []) × (found.start ≡ plan_of.Filter start predicates)) }
+{
+    Ok(Taken {
+        start: Plan::Filter(Boxed::new(alloc, start)?, predicates),
+        steps: Items::new(alloc),
+    })
+}
+
 /// The path with a scan more, of whose nodes the predicates keep some.
 fn with_tests(
     alloc: Global,
@@ -60,13 +90,8 @@ fn with_tests(
     ensures { IfOk result (λ found. (found.steps ≡ []) × (found.start ≡ plan_of.Filter
         (plan_of.Path path.start (path.steps ++ step_of.Scan axis test ∷ [])) predicates)) }
 {
-    let mut steps = path.steps;
-    steps.push(PlanStep::Scan(axis, test))?;
-    let found = Plan::Path(Boxed::new(alloc, path.start)?, steps);
-    Ok(Taken {
-        start: Plan::Filter(Boxed::new(alloc, found)?, predicates),
-        steps: Items::new(alloc),
-    })
+    let found = longer(alloc, path, PlanStep::Scan(axis, test))?;
+    filtered(alloc, found, predicates)
 }
 
 /// The path with a step that keeps its first predicate, and the others over all that it finds.
@@ -81,15 +106,9 @@ fn with_first(
     ensures { IfOk result (λ found. (found.steps ≡ []) × (found.start ≡ plan_of.Filter (plan_of.Path
         path.start (path.steps ++ step_of.Each (plan_of.Step axis test (first ∷ [])) ∷ [])) others)) }
 {
-    let mut predicates = Items::new(alloc);
-    predicates.push(first)?;
-    let mut steps = path.steps;
-    steps.push(PlanStep::Each(Plan::Step(axis, test, predicates)))?;
-    let found = Plan::Path(Boxed::new(alloc, path.start)?, steps);
-    Ok(Taken {
-        start: Plan::Filter(Boxed::new(alloc, found)?, others),
-        steps: Items::new(alloc),
-    })
+    let first = Plan::Step(axis, test, alone(alloc, first)?);
+    let found = longer(alloc, path, PlanStep::Each(first))?;
+    filtered(alloc, found, others)
 }
 
 /// The path with a step after `//`, where evaluation looks for what passes one predicate at once.
