@@ -25,6 +25,7 @@ RULES = {
     "order": "an equality stands before clauses that it doesn't need",
     "positions": "`position()` stands first in a general comparison with a number",
     "predicates": "a conjunction in a predicate is as many predicates",
+    "range_joins": "a `for` over what a predicate keeps, by a key of the tuple, is a `join`",
     "returns": "a conditional that is returned is a `where`",
     "scanned": "predicates are judged over all nodes of a scan",
     "some_pairs": "`some` of one pair of texts is a general comparison",
@@ -45,6 +46,8 @@ def derived(before: Form, after: Form) -> Marks | None:
         return of_some(before, after)
     if before.word == "let" and after.word == "group-join":
         return of_group(before.parts[0], after)
+    if before.word == "for" and after.word == "join":
+        return of_range(before, after)
     if before.word != after.word:
         return None
     found = by_parts(before, after)
@@ -300,6 +303,14 @@ def tests_of(clauses: Iterable[Form]) -> Iterator[Form]:
         yield from test.parts if test.word == "and" else (test,)
 
 
+def joined_out(join: Form, olds: Iterable[Form]) -> tuple[Form, ...]:
+    """The `for` and the `where` that a join stands for, or the join itself where it stands for one
+    of these `for` clauses."""
+    if any(it.word == "for" and of_range(it, join) is not None for it in olds):
+        return (join,)
+    return written_out(join)
+
+
 def narrowed_out(clause: Form, olds: Sequence[Form]) -> tuple[Form, ...]:
     """The `for` and the `where` that a `for` over a filter stands for, or the clause itself."""
     range_ = clause.parts[0] if clause.word == "for" else clause
@@ -341,6 +352,17 @@ def of_group(value: Form, group: Form) -> Marks | None:
         found = derived(value, form)
         if found is not None:
             return [(group, it) for it in (rule, *(name for _, name in found))]
+    return None
+
+
+def of_range(clause: Form, join: Form) -> Marks | None:
+    """The rules where a join stands for a `for` over the items that a predicate keeps."""
+    if clause.words:
+        return None
+    for _, form in stood_for(join):
+        found = derived(clause.parts[0], form)
+        if found is not None:
+            return [(join, it) for it in ("range_joins", *(name for _, name in found))]
     return None
 
 
@@ -456,7 +478,8 @@ def of_parts(before: Form, after: Form) -> Marks | None:
     clauses, of_join = list[Form](), dict[Form, Form]()
     narrowed = list[Form]()
     for clause in after.parts[:-1]:
-        written = written_out(clause) if clause.word == "join" else narrowed_out(clause, olds)
+        write = joined_out if clause.word == "join" else narrowed_out
+        written = write(clause, olds)
         clauses += written
         of_join |= dict.fromkeys(written, clause) if len(written) > 1 else {}
         narrowed += [clause] if clause.word == "for" and len(written) > 1 else []

@@ -58,6 +58,7 @@ OF_ITEM = f'(chain {path(1, ID)} (operand = (string "1")))'
 LAST = "(return (slot 1))"
 GROUP = f"(group-join = (slot 9) (key value 1 (scan {ID})) (key value 0 (scan {ID})))"
 OF_CHILD = f"(group-join = (slot 9) (key value 1 (scan {B})) (key value 0 (scan {ID})))"
+OF_RANGE = OF_CHILD.replace("group-join", "join")
 KEPT = f"(filter (slot 9) (chain (step {B}) (operand = {path(0, ID)})))"
 OF_LIST = f"(flwor (for (slot 9)) (where {EQUAL}) {LAST})"
 # What a form becomes, and the rules that make it so.
@@ -90,6 +91,8 @@ DERIVED = (
     (f"(flwor {RANGE} (return (call count {OF_LIST})))",
      f"(flwor {RANGE} {GROUP} (return (call count (slot 1))))",
      ["group_joins", "group_returns", "joins"]),
+    (f"(flwor {RANGE} (for {KEPT}) {LAST})", f"(flwor {RANGE} {OF_RANGE} {LAST})",
+     ["range_joins"]),
     (f"(flwor {RANGE} (where {OF_ITEM}) {LAST})",
      f"(flwor (for (filter {path(0, B)} {TEST})) {LAST})", ["narrow"]),
     (f"(flwor {RANGE} {RANGE} (where (and {EQUAL} {CAST})) {LAST})",
@@ -117,6 +120,7 @@ QUERIES = {
     "order": 'for $a in doc("x")//a let $c := $a/c where $c where $a/@id = "1" return $a',
     "positions": 'doc("x")/a[3 eq position()]',
     "predicates": 'doc("x")/a[b and position() < 3]',
+    "range_joins": 'for $a in doc("x")//a, $b in doc("x")/r/b[c = $a/c] return $b',
     "returns": 'for $a in doc("x")//a return if ($a/@id = "1") then $a else ()',
     "scanned": 'doc("x")/a/b[@id = "1"]/c',
     "some_pairs": 'for $a at $n in doc("x")//a where some $b in $a/b satisfies $b = "1" return $n',

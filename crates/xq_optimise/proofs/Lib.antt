@@ -27,6 +27,7 @@ pub mod FromOne
 pub mod FilterLaws
 pub mod FirstItems
 pub mod GroupMatches
+pub mod RangeJoins
 pub mod StepGroups
 pub mod NarrowRanges
 pub mod GroupReturns

@@ -28,7 +28,7 @@ pub step_group_found : (outer : ℕ) (known : List Held) (start : Plan) (steps :
     IsLetOf outer known (plan.Path start (steps ++ step.Each (plan.Step axis test ps) ∷ [])) (let_value.Group (plan.Path start (steps ++ step.Scan axis test ∷ [])) join)
 step_group_found outer known start steps axis test ps join (p, one, keeps, outside, all, compares) =
     subst (λ l. IsLetOf outer known (plan.Path start (steps ++ step.Each (plan.Step axis test l) ∷ [])) (let_value.Group range join)) (sym one)
-    (group_found outer known range whole join reads.1
+    (group_found outer known range whole join compares.3 reads.1
     (λ slots focus addresses long t fits f.
     filter_same outer known range p join holds reads compares slots focus addresses long t fits f ∙ same (slots ++ t) focus addresses f fits))
   where

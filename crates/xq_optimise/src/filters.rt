@@ -67,6 +67,15 @@ fn focus_scans(alloc: Global, plan: &Plan) -> Result<Option<Items<(Axis, Test)>>
     Ok(Some(scans))
 }
 
+/// Which keys a join may compare.
+#[derive(Clone, Copy)]
+pub enum Keys {
+    /// Any.
+    All,
+    /// Those that the values of attributes, which are kept, don't serve.
+    Unkept,
+}
+
 /// Whether the keys are an attribute of the item and a value of the tuple. The values of attributes
 /// are kept, so that those with one value are found without a table.
 fn are_kept(next: usize, item: &JoinKey, tuple: &JoinKey) -> bool {
@@ -129,8 +138,21 @@ fn compared_keys(
     Ok(Some((tuple, item)))
 }
 
+/// Whether the keys may be compared.
+fn may_compare(keys: Keys, next: usize, left: &JoinKey, right: &JoinKey) -> bool {
+    match keys {
+        Keys::All => true,
+        Keys::Unkept => !are_kept(next, left, right) && !are_kept(next, right, left),
+    }
+}
+
 /// The join that compares what a predicate compares.
-fn join_of(alloc: Global, next: usize, test: &Plan) -> Result<Option<Join>, AllocError>
+fn join_of(
+    alloc: Global,
+    next: usize,
+    test: &Plan,
+    keys: Keys,
+) -> Result<Option<Join>, AllocError>
     ensures { IfOk result (λ found. IfSome found (λ join. ComparesItems next join test.now)) }
 {
     let Some(equal) = as_equal(test) else {
@@ -139,7 +161,7 @@ fn join_of(alloc: Global, next: usize, test: &Plan) -> Result<Option<Join>, Allo
     let Some((left, right)) = compared_keys(alloc, next, equal.left, equal.right)? else {
         return Ok(None);
     };
-    if are_kept(next, &left, &right) || are_kept(next, &right, &left) {
+    if !may_compare(keys, next, &left, &right) {
         return Ok(None);
     }
     Ok(Some(Join {
@@ -158,6 +180,7 @@ pub fn filter_join(
     outer: usize,
     start: &Plan,
     predicates: &[Plan],
+    keys: Keys,
 ) -> Result<Option<Join>, AllocError>
     ensures { IfOk result (λ found. IfSome found (λ join.
         IsFilterGroup outer known.now start.now predicates.now join)) }
@@ -168,7 +191,7 @@ pub fn filter_join(
     if !gives_nodes(known, start) || !may_give_texts(start) || !reads_outside(outer, start) {
         return Ok(None);
     }
-    join_of(alloc, known.len(), test)
+    join_of(alloc, known.len(), test, keys)
 }
 
 /// The keys of a join that keeps of what a step finds after a path the nodes that its predicates
@@ -194,5 +217,5 @@ pub fn step_join(
     if !reads_outside(outer, start) || !steps_read_outside(outer, steps) {
         return Ok(None);
     }
-    join_of(alloc, known.len(), test)
+    join_of(alloc, known.len(), test, Keys::Unkept)
 }

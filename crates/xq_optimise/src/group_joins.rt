@@ -6,7 +6,7 @@ ghost use Rattle.xq_meaning.specs.declared.plans.PlanStep.TheVariants as step_of
 ghost use Rattle.xq_optimise.specs.declared.group_joins.LetValue.TheVariants as let_value_of;
 ghost use Rattle.xq_optimise.specs.private.GroupValues.{AddsValue, IsGroup, IsLetOf};
 
-use crate::filters::{filter_join, step_join};
+use crate::filters::{Keys, filter_join, step_join};
 use crate::held::Held;
 use crate::outside::reads_outside;
 use crate::some_pairs::is_slot;
@@ -98,7 +98,8 @@ fn filter_value(
     ensures { IfOk result (λ found.
         IsLetOf outer known.now (plan_of.Filter start predicates) found) }
 {
-    match filter_join(alloc, known, outer, start.get(), predicates.as_slice())? {
+    let tests = predicates.as_slice();
+    match filter_join(alloc, known, outer, start.get(), tests, Keys::Unkept)? {
         Some(join) => Ok(LetValue::Group(start.into_inner(), join)),
         None => Ok(LetValue::Other(Plan::Filter(start, predicates))),
     }

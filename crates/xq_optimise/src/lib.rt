@@ -21,6 +21,7 @@ mod order;
 mod outside;
 mod positions;
 mod predicates;
+mod range_joins;
 mod returns;
 mod scanned;
 mod scopes;

@@ -214,7 +214,7 @@ fn with_for(
 }
 
 /// Whether a tuple goes where its sequence is empty.
-fn drops_empty(empties: AllowingEmpty) -> bool
+pub fn drops_empty(empties: AllowingEmpty) -> bool
     ensures { result ≡ true → empties ≡ allowing.No }
 {
     match empties {

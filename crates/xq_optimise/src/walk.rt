@@ -15,6 +15,7 @@ use crate::nested::goes_on;
 use crate::order::arranged;
 use crate::positions::with_position_first;
 use crate::predicates::spliced;
+use crate::range_joins::with_range;
 use crate::returns::with_return;
 use crate::scanned;
 use crate::scopes::{bind, forget};
@@ -367,7 +368,7 @@ fn clause(
         PlanClause::For(empties, at, range) => {
             let range = expression(alloc, known, range)?;
             let held = held_by(known, &range);
-            let found = pushed(found, PlanClause::For(empties, at, range))?;
+            let found = with_range(alloc, known, outer, found, empties, at, range)?;
             bind(known, of_each(held), at)?;
             Ok(found)
         }

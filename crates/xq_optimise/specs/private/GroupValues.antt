@@ -1,6 +1,8 @@
 -- What a group join is to a `let`.
-use Rattle.std.specs.Prelude.{◌≡◌, ℕ, List, [], ◌∷◌, ◌++◌, length, Option, None, Ok}
+use Rattle.std.specs.Prelude.{◌≡◌, ℕ, List, [], ◌∷◌, ◌++◌, length, Bool, false, Option, None, Ok}
 use Rattle.xq_atoms.specs.Text.{Text}
+use Rattle.xq_expressions.specs.declared.operators.AllowingEmpty.{AllowingEmpty}
+use Rattle.xq_expressions.specs.declared.operators.AllowingEmpty.TheVariants as allowing
 use Rattle.xq_trees.specs.Tree.{Tree}
 use Rattle.xq_trees.specs.Tuples.{Tuple}
 use Rattle.xq_meaning.specs.declared.joins.Join.{Join}
@@ -48,10 +50,27 @@ LeavesAt outer known p =
     (given : Judged (List Item))
     × (plan_mean p (frame_of (slots ++ tuple) focus addresses) trees ≡ (given, trees))
 
--- what a value is found to be: that of a group join, which leaves the trees, or itself
+-- from such tuples the clause gives what a `for` over this range gives
+abbrev pub StandsForRange : ℕ → List Held → AllowingEmpty → Bool → Plan → PlanClause → Type 0
+StandsForRange outer known empties at range d =
+    (slots : Slots) (focus : Option Focus) (addresses : List Text) → length slots ≡ outer →
+    (tuples : List (Tuple Item)) (trees : List Tree) → AllFit known slots tuples →
+    plan_clause_mean d (frame_of slots focus addresses) tuples trees
+    ≡ plan_clause_mean (clause.For empties at range) (frame_of slots focus addresses) tuples trees
+
+-- such a clause is put at the end
+abbrev pub AddsRange : ℕ → List Held → AllowingEmpty → Bool → Plan → List PlanClause →
+    List PlanClause → Type 0
+AddsRange outer known empties at range before after =
+    (d : PlanClause) × (after ≡ before ++ d ∷ [])
+    × StandsForRange outer known empties at range d
+
+-- what a value is found to be: that of a group join, which leaves the trees, and over which a `for`
+-- is a join; or itself
 abbrev pub IsLetOf : ℕ → List Held → Plan → LetValue → Type 0
 IsLetOf outer known value (let_value.Group range join) =
     StandsForLet outer known value (clause.GroupJoin range join) × LeavesAt outer known value
+    × StandsForRange outer known allowing.No false value (clause.Join range join)
 IsLetOf outer known value (let_value.Other other) = other ≡ value
 
 -- the function gives a value of any one argument

@@ -20,12 +20,12 @@ use Rattle.xq_optimise.proofs.Conditionals.{flwor_stands}
 use Rattle.xq_optimise.proofs.Splitting.{step_same_on}
 use Rattle.xq_optimise.proofs.Ranges.{quantified_gives}
 use Rattle.xq_optimise.proofs.JoinLaws.{join_adds}
-use Rattle.xq_optimise.proofs.Loops.{left_next, turned_size, range_next, clause_added, for_adds, tests_add, order_adds, count_adds, group_adds, adds_at, extends_itself, scope_kept, ranges_left}
+use Rattle.xq_optimise.proofs.Loops.{left_next, turned_size, range_next, clause_added, tests_add, order_adds, count_adds, group_adds, adds_at, extends_itself, scope_kept, ranges_left}
 use Rattle.xq_optimise.proofs.Elements.{on_ok}
 use Rattle.xq_optimise.proofs.NestedReturns.{returns_alike, nested_stands}
 use Rattle.xq_optimise.proofs.GroupJoins.{group_join_adds}
-use Rattle.xq_optimise.proofs.GroupMatches.{value_adds}
-use Rattle.xq_optimise.specs.private.GroupValues.{AddsValue}
+use Rattle.xq_optimise.proofs.GroupMatches.{range_adds, value_adds}
+use Rattle.xq_optimise.specs.private.GroupValues.{AddsRange, AddsValue}
 use Rattle.xq_optimise.proofs.walk.+walk.Goals as goal
 
 pub expression-returns-in_ok-expressions-in-Sequence-clause-same : goal.expression-returns-in_ok-expressions-in-Sequence-clause-same
@@ -274,11 +274,14 @@ clauses-clause-requires t c =
 
 pub clause-returns-in_ok-bind-in-For-clause-same : goal.clause-returns-in_ok-bind-in-For-clause-same
 clause-returns-in_ok-bind-in-For-clause-same t c =
-    adds_at c.args.outer c.args.known.now.items c.args.next (clause.For c.in-For.empties c.in-For.at c.in-For.range) c.args.found c.in_ok-found-in-For.found c.bind.new.known.items c.in-For.is
-    (for_adds c.args.outer c.args.known.now.items c.expression.new.known.items c.bind.new.known.items c.in-For.empties c.in-For.at c.in-For.range c.in_ok-range-in-For.range c.args.found c.in_ok-found-in-For.found
+    let range = c.in_ok-range-in-For.range in
+    let found = c.in_ok-found-in-For.found in
+    adds_at c.args.outer c.args.known.now.items c.args.next (clause.For c.in-For.empties c.in-For.at c.in-For.range) c.args.found found c.bind.new.known.items c.in-For.is
+    (range_adds c.args.outer c.args.known.now.items c.expression.new.known.items c.bind.new.known.items c.in-For.empties c.in-For.at c.in-For.range range c.args.found found
     c.in_ok-range-in-For.ensures.same c.in_ok-range-in-For.ensures.kept c.held_by-held.result
-    (subst (λ k. IsHeld k c.held_by-held.result c.in_ok-range-in-For.range) c.deref.ensures.value c.held_by-held.ensures)
-    (subst (λ (h : Held). c.bind.new.known.items ≡ c.expression.new.known.items ++ with_position h c.in-For.at) c.of_each.ensures c.in_ok-bind-in-For.ensures) c.in_ok-found-in-For.ensures)
+    (subst (λ k. IsHeld k c.held_by-held.result range) c.deref.ensures.value c.held_by-held.ensures)
+    (subst (λ (h : Held). c.bind.new.known.items ≡ c.expression.new.known.items ++ with_position h c.in-For.at) c.of_each.ensures c.in_ok-bind-in-For.ensures)
+    (subst (λ (k : List Held). AddsRange c.args.outer k c.in-For.empties c.in-For.at range c.args.found found) c.deref-2.ensures.value c.in_ok-found-in-For.ensures))
 
 pub clause-returns-in_ok-bind-in-Let-clause-same : goal.clause-returns-in_ok-bind-in-Let-clause-same
 clause-returns-in_ok-bind-in-Let-clause-same t c =
