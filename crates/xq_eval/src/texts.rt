@@ -13,7 +13,7 @@ ghost use Rattle.xq_meaning.specs.PlanMeaning.{Frame as Meant, plan_mean, plan_s
 ghost use Rattle.xq_meaning.specs.Readings.{items_at, AreIn};
 ghost use Rattle.xq_operators.specs.Views.{after_double_slash, frame_at, tuple_at, FrameIn, TupleIn, Goes, GivesSequence};
 ghost use Rattle.xq_joins.specs.Equalities.{IsNodeOf, IsTextTest, IsTextTestIn, IsTreeAt, IsValueTest};
-ghost use Rattle.xq_joins.specs.Keyed.{IsKeyedTest};
+ghost use Rattle.xq_joins.specs.Keyed.{IsKeyedTest, IsValueKeyTest};
 ghost use Rattle.xq_joins.specs.Keys.{IsNode};
 ghost use Rattle.xq_eval.specs.private.Texts.{GivesFound, IsValueStep};
 
@@ -21,7 +21,7 @@ use std::alloc::Global;
 use xq_atoms::{Fault, Want};
 use xq_joins::{
     KeyedTest, TextTest, are_in_trees, are_nodes, keep_by_key, keep_by_text, keyed_test,
-    only_text_test, text_test, value_test,
+    only_text_test, text_test, value_key_test, value_test,
 };
 use xq_meaning::{Plan, Test};
 use xq_operators::{EvalContext, double_slash, scan};
@@ -66,6 +66,29 @@ fn value_test_at<'a, W: TreeStore>(
     if are_nodes { Ok(Some(test)) } else { Ok(None) }
 }
 
+/// The test for the string of a variable that the predicate is for nodes of trees, where all items
+/// are such: it refuses none of them.
+fn value_key_at<'a, W: TreeStore>(
+    alloc: Global,
+    world: &mut W,
+    slots: &[SlotValue],
+    predicate: &'a Plan,
+    items: &[Item],
+) -> Result<Option<KeyedTest<'a>>, Want>
+    ensures test { IfOk result (λ found. IfSome found (λ test.
+        IsValueKeyTest (values_of slots.now) test predicate.now)) }
+    ensures trees { W.is_clean world.new → IfOk result (λ found. IfSome found (λ _.
+        AllByRecursion (IsNodeOf (IsTreeAt (W.forest world.old))) (map item_view items.now))) }
+    ensures keeps { W.forest world.new ≡ W.forest world.old }
+    ensures was_clean { W.is_clean world.new → W.is_clean world.old }
+{
+    let Some(test) = value_key_test(alloc, slots, predicate)? else {
+        return Ok(None);
+    };
+    let are_nodes = are_in_trees(alloc, world, items)?;
+    if are_nodes { Ok(Some(test)) } else { Ok(None) }
+}
+
 /// The items that a predicate keeps which compares an attribute with a text as values, where all
 /// items are nodes of trees. None where it is no such predicate, or where it may refuse an item.
 fn keep_by_value<W: TreeStore>(
@@ -84,10 +107,13 @@ fn keep_by_value<W: TreeStore>(
     ensures keeps { W.forest world.new ≡ W.forest world.old }
     ensures was_clean { W.is_clean world.new → W.is_clean world.old }
 {
-    let Some(test) = value_test_at(alloc, world, frame.slots, predicate, items)? else {
+    if let Some(test) = value_test_at(alloc, world, frame.slots, predicate, items)? {
+        return Ok(Some(keep_by_text(alloc, world, items, test)?));
+    }
+    let Some(key) = value_key_at(alloc, world, frame.slots, predicate, items)? else {
         return Ok(None);
     };
-    Ok(Some(keep_by_text(alloc, world, items, test)?))
+    Ok(Some(keep_by_key(alloc, world, items, &key)?))
 }
 
 /// The items that a predicate keeps which asks nodes for a text, or for those of a key: they are
