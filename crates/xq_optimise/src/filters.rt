@@ -147,12 +147,7 @@ fn may_compare(keys: Keys, next: usize, left: &JoinKey, right: &JoinKey) -> bool
 }
 
 /// The join that compares what a predicate compares.
-fn join_of(
-    alloc: Global,
-    next: usize,
-    test: &Plan,
-    keys: Keys,
-) -> Result<Option<Join>, AllocError>
+fn join_of(alloc: Global, next: usize, test: &Plan, keys: Keys) -> Result<Option<Join>, AllocError>
     ensures { IfOk result (λ found. IfSome found (λ join. ComparesItems next join test.now)) }
 {
     let Some(equal) = as_equal(test) else {
