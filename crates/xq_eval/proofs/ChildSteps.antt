@@ -15,7 +15,6 @@ use Rattle.xq_trees.specs.declared.Axis.TheVariants as axis
 use Rattle.xq_trees.proofs.AxisTable.{on_axis_is}
 use Rattle.xq_meaning.specs.declared.node_tests.Test.{Test}
 use Rattle.xq_meaning.specs.declared.plans.Plan.{Plan}
-use Rattle.xq_meaning.specs.Arguments.{all_nodes}
 use Rattle.xq_meaning.specs.Doing.{Doing, Outcome, go_on, give, judged, on_trees, in_turn, more, collected}
 use Rattle.xq_meaning.specs.Forms as Forms
 use Rattle.xq_meaning.specs.Functions.{Focus}

@@ -1,5 +1,5 @@
 -- Filter expressions that choose among the value of a variable.
-use Rattle.std.proofs.Common.{◌≡◌, List, ◌∷◌, map, Ok, ◌∙◌, ap, subst, sym}
+use Rattle.std.proofs.Common.{◌≡◌, List, ◌∷◌, map, Ok, ◌∙◌, ap, subst}
 use Rattle.std.specs.Prelude.{IfSome, Option, Some}
 use Rattle.xq_trees.specs.Items.{item_view}
 use Rattle.xq_trees.specs.Tree.{Tree}

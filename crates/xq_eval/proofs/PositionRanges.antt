@@ -2,12 +2,11 @@
 use Rattle.std.proofs.Common.{◌≡◌, ℕ, zero, suc, ◌+◌, ◌<◌, ◌≤◌, List, [], ◌∷◌, Bool, true, false, Ok, refl, sym, ◌∙◌, ap, ◌⊎◌, inl, inr, arith}
 use Rattle.std.specs.Prelude.{ℤ, pos, negsuc, ◌<ℤ◌, ◌≤ℤ◌, ◌+ℤ◌, ◌-ℤ◌, nat_abs, int_le, int_lt, nat_le, nat_lt, max, ◌&&◌, ◌||◌, if◌then◌else◌}
 use Rattle.std.specs.declared.cmp.Ordering.TheVariants.{Less, Equal, Greater}
-use Rattle.std.specs.Ordering.{int_cmp}
 use Rattle.std.specs.Cmp.{int_cmp_is}
 use Rattle.std.proofs.lemmas.Bool.{cases_lt, lt-ltb, le-ltb, le-leb, lt-leb, and_left, and_right, and_from}
 use Rattle.std.proofs.lemmas.Int.{ints, by_lt_z}
 use Rattle.xq_atoms.specs.declared.comparisons.CompOp.TheVariants as comp
-use Rattle.xq_atoms.specs.Atom.{Atomic, Integer}
+use Rattle.xq_atoms.specs.Atom.{Integer}
 use Rattle.xq_atoms.specs.Compare.{key, key_cmp, holds}
 use Rattle.xq_atoms.specs.Decimal.{in_millionths}
 use Rattle.xq_atoms.specs.Judged.{Judged, ◌>>=◌}
@@ -21,13 +20,12 @@ use Rattle.xq_tuples.specs.declared.slots.SlotValue.{SlotValue}
 use Rattle.xq_meaning.specs.declared.operators.Operator.TheVariants as operator
 use Rattle.xq_meaning.specs.Arguments.{as_boolean, atomic, boolean}
 use Rattle.xq_meaning.specs.Forms as Forms
-use Rattle.xq_meaning.specs.Items.{Item, atomized}
-use Rattle.xq_meaning.specs.Operators.{keeps, or_rest, some_with, some_pair, integers_from, integers_within, how_many, most_integers}
+use Rattle.xq_meaning.specs.Items.{atomized}
+use Rattle.xq_meaning.specs.Operators.{or_rest, some_with, some_pair, integers_from, integers_within, how_many, most_integers}
 use Rattle.xq_meaning.specs.PlanMeaning.{Frame, plan_mean}
-use Rattle.xq_meaning.specs.Readings.{items_at}
 use Rattle.xq_eval.specs.declared.positions.ByPosition.TheVariants.{At, Within}
 use Rattle.xq_eval.specs.declared.positions.Span.{Span}
-use Rattle.xq_eval.specs.private.Positions.{GivesRange, IsPlaceOf, IsPositional, KeepsSpan, is_within, value_there}
+use Rattle.xq_eval.specs.private.Positions.{GivesRange, IsPlaceOf, IsPositional, KeepsSpan, is_within}
 use Rattle.xq_eval.proofs.PositionalPredicates.{position_is, two_values}
 
 -- `to` between two integers

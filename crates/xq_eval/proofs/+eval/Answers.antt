@@ -4,7 +4,6 @@ use Rattle.std.proofs.lemmas.List.{map-append, drop_all, length-map, length-appe
 use Rattle.xq_operators.specs.declared.contexts.EvalContext.{EvalContext as Held}
 use Rattle.xq_atoms.specs.Atom.{Atomic, Integer, String as AtomicString, atomic_of}
 use Rattle.xq_atoms.specs.declared.atoms.Atom.{Atom as AtomHeld}
-use Rattle.xq_atoms.specs.declared.refusals.Code.TheVariants.{XPTY0019}
 use Rattle.xq_atoms.specs.declared.refusals.Fault.TheVariants.{Code as OfCode}
 use Rattle.xq_trees.specs.Tuples.{Tuple, expanded, numbered, bound, satisfying}
 use Rattle.xq_trees.specs.Items.{ItemView, Place as NodeAt, Value, item_view, item_views}
@@ -14,7 +13,7 @@ use Rattle.xq_eval.specs.private.Numbers.{TellsNumber}
 use Rattle.xq_eval.proofs.PositionalPredicates.{same_number}
 use Rattle.xq_tuples.specs.Views.{slot_items, values_of}
 use Rattle.xq_meaning.specs.Items.{Item, Node, Atom, atomized}
-use Rattle.xq_meaning.specs.Arguments.{atomic, boolean, effective, all_nodes}
+use Rattle.xq_meaning.specs.Arguments.{atomic, boolean, effective}
 use Rattle.xq_meaning.specs.Functions.{Focus as Spot}
 use Rattle.xq_meaning.specs.Operators.{keeps, operated, signed, gathered}
 use Rattle.xq_meaning.specs.Steps.{focuses, focuses_from, in_axis_order}
@@ -32,7 +31,7 @@ use Rattle.xq_meaning.specs.Doing.{◌>>=◌, Outcome, go_on, give, judged, on_t
 use Rattle.xq_meaning.specs.PlanMeaning.{if_equal, equal_items, Frame, Meaning, at_carried, flwor, plan_mean, plan_clause_mean, plan_step_mean, at_tuple, next_clause, next_step}
 use Rattle.xq_meaning.proofs.PlanEquations.{plan-Int, plan-Str, plan-Root, plan-Step, plan-Named, plan-Unnamed, plan-Call, plan-Quantified, clause-Group, clause-Order, clause-Refused, clause-Join, clause-GroupJoin, step-Scan, plan-Dec, plan-Slot, plan-ContextItem, plan-Sequence, plan-Chain, plan-Unary, plan-If, plan-Or, plan-And, plan-Filter, plan-Path, plan-Flwor, step-Each, clause-For, clause-Let, clause-Where, clause-Count, plan-Arrow, plan-Map}
 use Rattle.xq_meaning.proofs.Turns.{begun_then}
-use Rattle.xq_operators.specs.Views.{order_specs, calling, ordering, after_double_slash, parents_below, plant_named, plant_unnamed, tuple_at, tuples_at, lists_of, spot_at, forget, frame_at, TupleIn, TuplesIn, GivesNode, GivesSequence, GivesTuples, FrameIn}
+use Rattle.xq_operators.specs.Views.{order_specs, calling, ordering, after_double_slash, parents_below, plant_named, plant_unnamed, tuple_at, tuples_at, lists_of, spot_at, frame_at, TupleIn, TuplesIn, GivesNode, GivesSequence, GivesTuples, FrameIn}
 use Rattle.xq_eval.specs.private.Results.{GivesKey, GivesKeys, GivesLists, GivesTests, GivesPlain}
 use Rattle.xq_eval.specs.private.Filled.{filled}
 use Rattle.xq_operators.proofs.Growth.{extends_itself, extends_more, stays, frame_grown, frame_in_grown, items_grown, are_in_grown, item_at_grown, in_grown, tuple_grown, tuple_in_grown, tuples_grown, tuples_in_grown, goes_on_to}
@@ -87,8 +86,6 @@ use Rattle.xq_operators.specs.Reads.{IsAtom}
 use Rattle.xq_expressions.specs.declared.operators.AllowingEmpty.TheVariants.{No}
 use Rattle.xq_eval.proofs.FlatKeys.{from_done, collected_is, for_each_length, are_rows, order_is, order_stops}
 use Rattle.xq_eval.proofs.LoneFor.{lone_for_is}
-use Rattle.xq_eval.specs.declared.lent.FilteredVariable.{FilteredVariable}
-use Rattle.xq_eval.specs.private.Lent.{Filters}
 use Rattle.xq_eval.proofs.LentFilters.{lent_filters, filters_first, filters_then}
 use Rattle.xq_eval.proofs.+eval.Goals as goal
 

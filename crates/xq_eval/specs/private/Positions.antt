@@ -28,7 +28,8 @@ value_there (At number) n = Value (Integer number) ∷ []
 value_there (Same value) n = item_views value
 value_there (Compared op number) n =
     Value (Boolean (holds op (key_cmp (key (Integer (pos n))) (key (Integer number))))) ∷ []
-value_there (Within first last) n = Value (Boolean (int_le first (pos n) && int_le (pos n) last)) ∷ []
+value_there (Within first last) n =
+    Value (Boolean (int_le first (pos n) && int_le (pos n) last)) ∷ []
 
 -- over these trees, in this frame, wherever there are so many items, the plan has this value at
 -- each of them, and does nothing else
@@ -43,8 +44,8 @@ abbrev pub IsPositional : List SlotValue → Plan → ℕ → ByPosition → Typ
 IsPositional slots p last value = (trees : List Tree) (frame : Frame)
     → frame.env ≡ tuple_at trees (values_of slots) → IsPositionalIn trees frame p last value
 
--- wherever the variables have the values of these slots, and there are so many items, the plan gives
--- the integers from one number to another at each of them
+-- wherever the variables have the values of these slots, and there are so many items, the plan
+-- gives the integers from one number to another at each of them
 abbrev pub GivesRange : List SlotValue → Plan → ℕ → ℤ → ℤ → Type 0
 GivesRange slots p count first last = (trees : List Tree) (frame : Frame)
     → frame.env ≡ tuple_at trees (values_of slots) → (focus : Focus) → focus.last ≡ count

@@ -1,7 +1,7 @@
-use Rattle.std.proofs.Common.{◌≡◌, ◌∷◌, map, Ok, ap, sym, subst, ◌∙◌, arith}
+use Rattle.std.proofs.Common.{◌≡◌, map, Ok, ap, sym, subst, ◌∙◌, arith}
 use Rattle.xq_trees.specs.Items.{item_view}
 use Rattle.xq_trees.specs.Tuples.{value_at}
-use Rattle.xq_tuples.specs.Views.{slot_items, values_of}
+use Rattle.xq_tuples.specs.Views.{slot_items}
 use Rattle.xq_meaning.specs.Readings.{items_at, AreIn}
 use Rattle.xq_meaning.specs.PlanMeaning.{Meaning, plan_mean}
 use Rattle.xq_meaning.proofs.PlanEquations.{plan-Slot}
