@@ -28,7 +28,8 @@ PREDICATES = ("", "", "[1]", "[2]", "[last()]", "[position() <= 2]", "[position(
               '[. = "x"]', '[@id < "3" and 2 < position()]', "[@id = 1]", '[@id = "1"][2]',
               '[@id eq "1"]', '["2" eq @id]', "[@id eq 1]", '[{0}][@id = "1"]', "[last() - 1]",
               '[{0} eq "x"]', "[position() < last()]", "[position() = last() - 1]",
-              '[{0} and @id = "2" and . != "x"]', "[last() idiv 2]", "[position() > last() - 3]")
+              '[{0} and @id = "2" and . != "x"]', "[last() idiv 2]", "[position() > last() - 3]",
+              "[position() = 2 to 4]", "[2 to last() = position()]", "[position() = 3 to 2]")
 QUERIES = (
     "{path}", "{path}", "{path}", "count({path})", "({path})[{number}]//{name}",
     "for $x in {path} return count($x//{name})",
@@ -102,6 +103,21 @@ QUERIES = (
     'for $x in {path} return doc("d")/r/*[{name} and @id = string($x/@id)]/{other}',
     "for $x in {path}, $y in {path} let $s := string-join($y/{name}) where $x/{name} = $s"
     " return $s",
+    "for $x in {path}, $y in {path}[{name} = $x/{other}] return concat($x/@id, $y/@id)",
+    'for $x in {path}, $y in doc("d")//{name}[{other} = $x/{other}] return string($y)',
+    'for $x in {path}, $y in doc("d")/r/{name}[@id = $x/@id] where $y/{other} return $y/@id',
+    "for $x in {path} for $y allowing empty in {path}[{name} = $x/{name}] return count($y)",
+    "for $x in {path}, $y at $n in {path}[@id = $x/@id][{number}] return $n",
+    "for $x in {path}, $y in ({path}, {number})[{name} = $x/{name}] return string($y)",
+    "for $x in {path}, $y in {path}/{name}[. eq $x/@id] return string($y)",
+    'let $k := ({path}/@id/string(), "1", "2", "3", "x") return count(doc("d")//{name}[@id = $k])',
+    'let $k := ({path}/string(), "x", {number}) return count({path}[{name} = $k])',
+    'for $k in 1 to {number} return count(doc("d")//{name}[@id eq string($k) and {other}])',
+    'let $l := {path} for $k in 1 to {number} return $l[@id eq string($k)][{name}]/string(@id)',
+    'let $l := ({path}, {number}) return for $i in (3, 1, {number}) return string($l[$i][{name}])',
+    "let $l := {path} return $l[{name}][position() = 1 to {number}][last()]/string(@id)",
+    'doc("d")/*/*[@id eq "{number}"]/{name}[@id eq "1"]/string(@id)',
+    '({path}, {path})/{name}["{number}" eq @id]/{other}/string(.)',
     'let $t := ({path}, {path}) return for $x in doc("d")//{name} return count($t[node() = $x])',
     'let $t := {path} return for $x in {path} return count($t[.. = $x])',
     'let $t := {path} return for $x in {path} return count($t[ancestor::{name}/@id = $x/@id])',
