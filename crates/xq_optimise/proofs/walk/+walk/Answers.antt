@@ -281,7 +281,7 @@ clause-returns-in_ok-bind-in-For-clause-same t c =
     c.in_ok-range-in-For.ensures.same c.in_ok-range-in-For.ensures.kept c.held_by-held.result
     (subst (λ k. IsHeld k c.held_by-held.result range) c.deref.ensures.value c.held_by-held.ensures)
     (subst (λ (h : Held). c.bind.new.known.items ≡ c.expression.new.known.items ++ with_position h c.in-For.at) c.of_each.ensures c.in_ok-bind-in-For.ensures)
-    (subst (λ (k : List Held). AddsRange c.args.outer k c.in-For.empties c.in-For.at range c.args.found found) c.deref-2.ensures.value c.in_ok-found-in-For.ensures))
+    (subst (λ (k : List Held). AddsRange c.args.outer k c.in-For.empties c.in-For.at range c.args.found found) c.deref-in-For.ensures.value c.in_ok-found-in-For.ensures))
 
 pub clause-returns-in_ok-bind-in-Let-clause-same : goal.clause-returns-in_ok-bind-in-Let-clause-same
 clause-returns-in_ok-bind-in-Let-clause-same t c =
@@ -319,10 +319,10 @@ clause-returns-in_ok-list-in-Order-clause-same t c =
 
 pub clause-returns-in_ok-push-in-Join-clause-same : goal.clause-returns-in_ok-push-in-Join-clause-same
 clause-returns-in_ok-push-in-Join-clause-same t c =
-    IfOk-weaker c.pushed-in-Join.result _ _
+    IfOk-weaker c.pushed.result _ _
     (λ after h. adds_at c.args.outer c.args.known.now.items c.args.next (clause.Join c.in-Join.range c.in-Join.join) c.args.found after c.push.new.self.items c.in-Join.is
     (join_adds c.args.outer c.args.known.now.items c.push.new.self.items c.in-Join.range c.in-Join.join c.args.found after c.in_ok-push-in-Join.ensures.items h))
-    c.pushed-in-Join.ensures
+    c.pushed.ensures
 
 pub clause-returns-in_ok-push-in-GroupJoin-clause-same : goal.clause-returns-in_ok-push-in-GroupJoin-clause-same
 clause-returns-in_ok-push-in-GroupJoin-clause-same t c =
