@@ -357,7 +357,7 @@ def of_group(value: Form, group: Form) -> Marks | None:
 
 def of_range(clause: Form, join: Form) -> Marks | None:
     """The rules where a join stands for a `for` over the items that a predicate keeps."""
-    if clause.words:
+    if clause.words or any(it.word == "carried" for it in join.parts):
         return None
     for _, form in stood_for(join):
         found = derived(clause.parts[0], form)
