@@ -19,6 +19,7 @@ RULES = {
     "firsts": "a `where` up to a position is a predicate of the `for` before it",
     "group_joins": "a `let` of what a join keeps of its range is a group join",
     "group_returns": "a group join that is returned or counted is a clause",
+    "invariants": "a part that is the same at each item is evaluated before all",
     "joins": "a `for` and the `where` after it are a `join`",
     "narrow": "a `where` that compares with a text is a predicate of the `for` before it",
     "nested": "a FLWOR goes on with the clauses of one that it returns",
@@ -29,9 +30,12 @@ RULES = {
     "returns": "a conditional that is returned is a `where`",
     "scanned": "predicates are judged over all nodes of a scan",
     "some_pairs": "`some` of one pair of texts is a general comparison",
+    "step_invariants": "a part that is the same at each node of a step is evaluated before all",
     "wheres": "the first conjuncts of a `where` are as many `where` clauses",
     "written": "a variable that an equality reads is written out",
 }
+# The rule that evaluates a part of a predicate first, by the form that has the predicate.
+OF_LIFTED = {"filter": "invariants", "path": "step_invariants"}
 # A form of the optimised plan, and the rule that made it so.
 Marks = list[tuple[Form, str]]
 GENERAL = {"eq": "=", "ne": "!=", "lt": "<", "le": "<=", "gt": ">", "ge": ">="}
@@ -40,6 +44,8 @@ TURNED = {"=": "=", "!=": "!=", "<": ">", "<=": ">=", ">": "<", ">=": "<="}
 
 def derived(before: Form, after: Form) -> Marks | None:
     """The rules that make one form of another, by where they did; None where these rules don't."""
+    if after.word == "flwor" and before.word in OF_LIFTED:
+        return of_lifted(before, after)
     if before.word == "path" and (found := of_path(before, after)) is not None:
         return found
     if before.word == "quantified" and after.word == "chain":
@@ -364,6 +370,36 @@ def of_range(clause: Form, join: Form) -> Marks | None:
         if found is not None:
             return [(join, it) for it in ("range_joins", *(name for _, name in found))]
     return None
+
+
+def in_place(form: Form, slot: str, value: Form) -> Form:
+    """The form with a value in place of a slot."""
+    if form.word == "slot" and form.words == (slot,):
+        return value
+    parts = tuple(in_place(it, slot, value) for it in form.parts)
+    if form.word == "path" and parts[0].word == "path":
+        parts = (*parts[0].parts, *parts[1:])
+    return Form(form.word, form.words, parts)
+
+
+def of_lifted(before: Form, after: Form) -> Marks | None:
+    """The rules where the items, and then a part of a predicate, are evaluated first."""
+    match after.parts:
+        case (Form("let", _, (items,)), Form("return", _, (Form("flwor", _, (
+                Form("let", _, (Form("if", _, (_, Form("then", _, (part,)), _)),)),
+                Form("return", _, (whole,)))),))):
+            pass
+        case _:
+            return None
+    start = whole
+    while start.word in ("filter", "path"):
+        start = start.parts[0]
+    if start.word != "slot":
+        return None
+    slot = start.words[0]
+    written = in_place(in_place(whole, str(int(slot) + 1), part), slot, items)
+    found = derived(before, written)
+    return None if found is None else [(after, OF_LIFTED[before.word]), *found]
 
 
 def of_some(before: Form, after: Form) -> Marks | None:

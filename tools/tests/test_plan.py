@@ -15,7 +15,7 @@ from tools.gate.plan_forms import Form, Layout
 from tools.rows import tables
 
 # Files of the optimiser that are no rule: the pass, and what its rules ask.
-NO_RULES = {"held", "kinds", "lib", "lists", "outside", "scopes", "sure", "walk"}
+NO_RULES = {"focus", "held", "kinds", "lib", "lists", "outside", "scopes", "sure", "walk"}
 FORM = ('(flwor (for at (call doc (string "a b"))) (join eq (path (slot 0) (scan child (element)))'
         ' (carried 0) (key value 2 (scan child (element "a")) (scan attribute (attribute "id")))'
         ' (key string 1 (scan child (text))))'
@@ -114,6 +114,7 @@ QUERIES = {
                    ' return $b return $m',
     "group_returns": 'for $a in doc("x")//a return count(for $b in doc("x")//b'
                      ' where $b/c = $a/c return $b)',
+    "invariants": '(doc("x")//a)[@id = max(doc("x")//a/xs:integer(@id))]',
     "joins": 'for $a in doc("x")//a, $b in doc("x")//b where $b/@id = $a/@id return $b',
     "narrow": 'for $a in doc("x")//a where $a/@id = "1" return $a/b',
     "nested": 'for $a in doc("x")//a return for $b in doc("x")//b where $b/@id = $a/@id return $b',
@@ -124,6 +125,7 @@ QUERIES = {
     "returns": 'for $a in doc("x")//a return if ($a/@id = "1") then $a else ()',
     "scanned": 'doc("x")/a/b[@id = "1"]/c',
     "some_pairs": 'for $a at $n in doc("x")//a where some $b in $a/b satisfies $b = "1" return $n',
+    "step_invariants": 'doc("x")//a[@id = max(doc("x")//a/xs:integer(@id))]',
     "wheres": 'for $a in doc("x")//a where $a/b and $a/@id = "1" return $a',
     "written": 'for $a in doc("x")//a let $b := $a/b where $b = $a/c return $a',
 }

@@ -1,14 +1,14 @@
 -- What parts give by their form: nodes, texts, one item.
-use Rattle.std.proofs.Common.{◌≡◌, ℕ, ℤ, List, [], ◌∷◌, ◌++◌, map, reverse, Bool, true, false, Ok, Err, refl, sym, ap, ◌∙◌, subst, if◌then◌else◌}
+use Rattle.std.proofs.Common.{◌≡◌, ℕ, ℤ, suc, List, [], ◌∷◌, ◌++◌, map, reverse, Bool, true, false, Ok, Err, refl, sym, ap, ◌∙◌, subst, if◌then◌else◌}
 use Rattle.std.specs.Prelude.{Option, Some, None}
 use Rattle.std.specs.List.{AllByRecursion}
 use Rattle.std.proofs.lemmas.List.{map-append}
-use Rattle.xq_atoms.specs.Judged.{Judged, ◌>>=◌}
-use Rattle.xq_atoms.specs.Atom.{Atomic}
+use Rattle.xq_atoms.specs.Judged.{Judged, only_if, ◌>>=◌}
+use Rattle.xq_atoms.specs.Atom.{Atomic, String, Untyped, Integer, Decimal, Boolean}
 use Rattle.xq_atoms.specs.Cast.{text_of}
 use Rattle.xq_atoms.specs.Compare.{key, key_eq}
-use Rattle.xq_atoms.specs.Text.{Text}
-use Rattle.xq_atoms.specs.declared.refusals.Code.TheVariants.{XPTY0018, XPTY0019}
+use Rattle.xq_atoms.specs.Text.{Text, text_eq}
+use Rattle.xq_atoms.specs.declared.refusals.Code.TheVariants.{FODC0005, XPTY0018, XPTY0019}
 use Rattle.xq_expressions.specs.declared.signatures.Function.{Function}
 use Rattle.xq_expressions.specs.declared.signatures.Function.TheVariants as f
 use Rattle.xq_trees.specs.declared.Axis.{Axis}
@@ -23,8 +23,8 @@ use Rattle.xq_meaning.specs.declared.plans.PlanStep.TheVariants as step
 use Rattle.xq_meaning.specs.Arguments.{all_nodes, one_text, text}
 use Rattle.xq_meaning.specs.Doing.{Doing, Outcome, go_on, give, judged, on_trees, in_turn, more, for_each, collected}
 use Rattle.xq_meaning.specs.Forms
-use Rattle.xq_meaning.specs.Functions.{Focus, called, distinct_values, item_text, string}
-use Rattle.xq_meaning.specs.Items.{Place, Item, Node, Atom, atomized, in_document_order}
+use Rattle.xq_meaning.specs.Functions.{Focus, called, distinct_values, doc, document, document_from, is_address, item_text, string}
+use Rattle.xq_meaning.specs.Items.{Place, Item, Node, Atom, atomized, in_document_order, root_of}
 use Rattle.xq_meaning.specs.Operators.{gathered, nodes_or_atoms}
 use Rattle.xq_meaning.specs.PlanMeaning.{Slots, Frame, Meaning, plan_mean, plan_step_mean}
 use Rattle.xq_meaning.specs.Same.{frame_of}
@@ -194,6 +194,60 @@ call_text name h ps frame trees =
 
     by : (o : Outcome (List (List Item))) → GivesHeld has.Text (go_on o (λ values. on_trees (λ trees. called name trees frame.addresses frame.focus values)))
     by (Ok values, g) = told (called name g frame.addresses frame.focus values) g (h g frame.addresses frame.focus values)
+    by (Err code, g) = tt
+
+-- # Documents
+
+abbrev IsOfNodesAlone : Judged (List Item) → Type 0
+IsOfNodesAlone (Ok xs) = AreNodes xs
+IsOfNodesAlone (Err code) = Unit {0}
+
+from_nodes : (n : ℕ) (addresses : List Text) (address : Text) → IsOfNodesAlone (document_from n addresses address)
+from_nodes n [] address = tt
+from_nodes n (a ∷ others) address = by (text_eq a address) refl (from_nodes (suc n) others address)
+  where
+    by : (b : Bool) → text_eq a address ≡ b → IsOfNodesAlone (document_from (suc n) others address) → IsOfNodesAlone (document_from n (a ∷ others) address)
+    by true e rest = rw e (root_of n ∷ [], refl)
+    by false e rest = rw e rest
+
+document_nodes : (addresses : List Text) (address : Text) → IsOfNodesAlone (document addresses address)
+document_nodes addresses address = by (is_address address)
+  where
+    by : (b : Bool) → IsOfNodesAlone (only_if b FODC0005 address >>= (λ good. document_from 0 addresses good))
+    by true = from_nodes 0 addresses address
+    by false = tt
+
+doc_nodes : (addresses : List Text) (atoms : List Atomic) → IsOfNodesAlone (doc addresses atoms)
+doc_nodes addresses [] = ([], refl)
+doc_nodes addresses (Integer n ∷ []) = tt
+doc_nodes addresses (Decimal m ∷ []) = tt
+doc_nodes addresses (String t ∷ []) = document_nodes addresses t
+doc_nodes addresses (Boolean b ∷ []) = tt
+doc_nodes addresses (Untyped t ∷ []) = document_nodes addresses t
+doc_nodes addresses (a ∷ b ∷ more) = tt
+
+called_doc : (trees : List Tree) (addresses : List Text) (focus : Option Focus) (values : List (List Item)) → IsOfNodesAlone (called f.Doc trees addresses focus values)
+called_doc trees addresses None [] = tt
+called_doc trees addresses (Some here) [] = tt
+called_doc trees addresses focus (xs ∷ []) = doc_nodes addresses (atomized trees xs)
+called_doc trees addresses focus (xs ∷ ys ∷ []) = tt
+called_doc trees addresses focus (xs ∷ ys ∷ zs ∷ []) = tt
+called_doc trees addresses focus (w ∷ xs ∷ ys ∷ zs ∷ more) = tt
+
+pub doc_held : (known : List Held) (p : Plan) (ps : List Plan) → p ≡ plan.Call f.Doc ps → IsHeld known has.Nodes p
+doc_held known p ps is slots focus addresses trees fits =
+    subst (λ m. GivesHeld has.Nodes (m frame trees)) (sym (ap plan_mean is ∙ plan_eq.plan-Call f.Doc ps))
+    (by (for_each (λ (part : Meaning). part frame) (map plan_mean ps) trees))
+  where
+    frame : Frame
+    frame = frame_of slots focus addresses
+
+    told : (r : Judged (List Item)) (g : List Tree) → IsOfNodesAlone r → GivesHeld has.Nodes (r, g)
+    told (Ok xs) g k = k
+    told (Err code) g k = tt
+
+    by : (o : Outcome (List (List Item))) → GivesHeld has.Nodes (go_on o (λ values. on_trees (λ ts. called f.Doc ts addresses focus values)))
+    by (Ok values, g) = told (called f.Doc g addresses focus values) g (called_doc g addresses focus values)
     by (Err code, g) = tt
 
 pub string_call : IsOfText f.String

@@ -132,7 +132,7 @@ chain_quiet first rest h all frame =
     every [] k = tt
     every (o ∷ os) k = ((λ xs. then_leaves (o.1 frame) _ (k.0 frame) (λ ys f. (_, refl))), every os k.1)
 
-bang_leaves : (part : Meaning) → Quiet part → (frame : Frame) (focuses : List Focus) (done : List Item) →
+pub bang_leaves : (part : Meaning) → Quiet part → (frame : Frame) (focuses : List Focus) (done : List Item) →
     Leaves (in_turn (more (λ focus. part (Forms.in_focus frame focus))) done focuses)
 bang_leaves part h frame focuses done =
     collected_leaves (λ focus. part (Forms.in_focus frame focus)) focuses
@@ -145,13 +145,13 @@ map_quiet start parts h all frame = then_leaves (start frame) _ (h frame) (λ xs
     every [] k = tt
     every (p ∷ ps) k = ((λ xs. bang_leaves p k.0 frame _ []), every ps k.1)
 
-passed_leaves : (part : Meaning) → Quiet part → (frame : Frame) (focus : Focus) → Leaves (Forms.passed part frame focus)
+pub passed_leaves : (part : Meaning) → Quiet part → (frame : Frame) (focus : Focus) → Leaves (Forms.passed part frame focus)
 passed_leaves part h frame focus =
     then_leaves (part (Forms.in_focus frame focus)) (λ value. judged (keeps focus.position value) >>= (λ keep. give (Forms.kept_if focus.item keep))) (h (Forms.in_focus frame focus))
     (λ value. then_leaves (judged (keeps focus.position value)) (λ keep. give (Forms.kept_if focus.item keep)) (judged_leaves (keeps focus.position value))
     (λ keep. judged_leaves (Ok (Forms.kept_if focus.item keep))))
 
-filters_leave : (frame : Frame) (predicates : List Meaning) → AllByRecursion Quiet predicates → (xs : List Item) →
+pub filters_leave : (frame : Frame) (predicates : List Meaning) → AllByRecursion Quiet predicates → (xs : List Item) →
     Leaves (in_turn (Forms.filtered frame) xs predicates)
 filters_leave frame predicates all = turns_leave (Forms.filtered frame) predicates (every predicates all)
   where

@@ -20,6 +20,10 @@ pub mod EqualitiesFirst
 pub mod Rising
 pub mod JoinLaws
 pub mod Leaving
+pub mod SameTrees
+pub mod LiftedParts
+pub mod FocusFree
+pub mod LiftedSteps
 pub mod GroupJoins
 pub mod GroupLets
 pub mod SlotsOutside

@@ -38,7 +38,7 @@ tells known (p ∷ ps) all slots addresses f fits =
     ((λ q. first.0 q && rest.0 q), (first.0, rest.0, first.1, rest.1, λ q. refl))
 
 -- a path with one step more
-path_more : (start : Plan) (steps : List PlanStep) (s : PlanStep) (frame : Frame) (f : List Tree) →
+pub path_more : (start : Plan) (steps : List PlanStep) (s : PlanStep) (frame : Frame) (f : List Tree) →
     plan_mean (plan.Path start (steps ++ s ∷ [])) frame f ≡ go_on (plan_mean (plan.Path start steps) frame f) (λ xs. plan_step_mean s frame xs)
 path_more start steps s frame f =
     ap (λ m. m frame f) (plan_eq.plan-Path start (steps ++ s ∷ []))
@@ -54,7 +54,7 @@ path_more start steps s frame f =
     by (Err code, g) = refl
 
 -- the path of no steps
-path_none : (start : Plan) (frame : Frame) (f : List Tree) → plan_mean (plan.Path start []) frame f ≡ plan_mean start frame f
+pub path_none : (start : Plan) (frame : Frame) (f : List Tree) → plan_mean (plan.Path start []) frame f ≡ plan_mean start frame f
 path_none start frame f = ap (λ m. m frame f) (plan_eq.plan-Path start []) ∙ go_on_give (plan_mean start frame f)
 
 pub path_alone : (known : List Held) (start : Plan) → GivesSame known (plan.Path start []) start

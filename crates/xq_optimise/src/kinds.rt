@@ -119,7 +119,7 @@ fn leaves_nodes(step: &PlanStep) -> bool
 }
 
 /// Whether there are steps, and the last one gives nodes alone.
-fn end_in_step(steps: &[PlanStep]) -> bool
+pub fn end_in_step(steps: &[PlanStep]) -> bool
     ensures { result ≡ true → EndsInNodes steps.now }
 {
     let mut ends = false;
@@ -129,12 +129,23 @@ fn end_in_step(steps: &[PlanStep]) -> bool
     ends
 }
 
-/// Whether a part is a slot of nodes, a step, or ends in one.
+/// Whether a call of the function gives documents, where it gives a value.
+fn gives_documents(function: Function) -> bool
+    ensures { result ≡ true → function ≡ Function.Doc }
+{
+    match function {
+        Function::Doc => true,
+        _ => false,
+    }
+}
+
+/// Whether a part is a slot of nodes, a call that gives documents, a step, or ends in one.
 fn is_of_nodes(known: &[Held], plan: &Plan) -> bool
     ensures { result ≡ true → IsHeld known.now Nodes plan.now }
 {
     match plan {
         Plan::Slot(slot) => has_nodes(known, *slot),
+        Plan::Call(function, _) => gives_documents(*function),
         Plan::Step(_, _, _) => true,
         Plan::Path(_, steps) => end_in_step(steps.as_slice()),
         _ => false,
@@ -222,6 +233,7 @@ fn held_by_call(known: &[Held], function: Function, parts: &[Plan]) -> Held
     match function {
         Function::Data => held_by_atoms(known, parts),
         Function::DistinctValues => held_by_atoms(known, parts),
+        Function::Doc => Held::Nodes,
         _ => Held::Anything,
     }
 }

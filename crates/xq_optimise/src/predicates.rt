@@ -59,7 +59,7 @@ fn is_at_node(plan: &Plan) -> bool
 }
 
 /// Whether the part gives nodes by steps from the node in focus.
-fn finds_nodes(plan: &Plan) -> bool
+pub fn finds_nodes(plan: &Plan) -> bool
     ensures { result ≡ true → sure.SurelyFinds plan.now }
 {
     match plan {

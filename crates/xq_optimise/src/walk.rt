@@ -5,7 +5,6 @@ ghost use Rattle.xq_optimise.specs.Same.{GivesSame};
 ghost use Rattle.xq_optimise.specs.private.FlworParts.{StandsForFlwor};
 ghost use Rattle.xq_optimise.specs.private.Parts as parts;
 
-use crate::comparisons::spliced_after;
 use crate::group_joins::with_value;
 use crate::held::Held;
 use crate::joins::with_joins;
@@ -17,10 +16,10 @@ use crate::positions::with_position_first;
 use crate::predicates::spliced;
 use crate::range_joins::with_range;
 use crate::returns::with_return;
-use crate::scanned;
 use crate::scopes::{bind, forget};
 use crate::some_pairs::quantified;
 use crate::wheres::{pushed, with_tests};
+use crate::{invariants, step_invariants};
 use sqlite_items::{Boxed, Items};
 use std::alloc::{AllocError, Global};
 use xq_expressions::{Function, OrderModifier};
@@ -51,13 +50,12 @@ pub fn expression(alloc: Global, known: &mut Vec<Held>, plan: Plan) -> Result<Pl
         Plan::Filter(start, predicates) => {
             let start = boxed(alloc, known, start)?;
             let predicates = expressions(alloc, known, predicates)?;
-            let kept = spliced_after(alloc, known, start.get(), predicates)?;
-            Ok(Plan::Filter(start, kept))
+            invariants::filter(alloc, known, start, predicates)
         }
         Plan::Path(start, list) => {
             let start = boxed(alloc, known, start)?;
             let list = steps(alloc, known, list)?;
-            scanned::path(alloc, known, start, list)
+            step_invariants::path(alloc, known, start, list)
         }
         Plan::If(test, positive, negative) => {
             let test = boxed(alloc, known, test)?;

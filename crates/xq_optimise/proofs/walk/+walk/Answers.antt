@@ -59,32 +59,31 @@ expression-returns-in_ok-more-in-Chain-clause-same t c =
     (all_known_at SameOperand known c.boxed.new.known.items c.in-Chain.more c.in_ok-more-in-Chain.more c.in_ok-first-in-Chain.ensures.kept c.in_ok-more-in-Chain.ensures.same))
     (h known))) c.with_position_first.ensures
 
-pub expression-returns-in_ok-kept-in-Filter-clause-same : goal.expression-returns-in_ok-kept-in-Filter-clause-same
-expression-returns-in_ok-kept-in-Filter-clause-same t c =
+pub expression-returns-in_ok-predicates-in-Filter-clause-same : goal.expression-returns-in_ok-predicates-in-Filter-clause-same
+expression-returns-in_ok-predicates-in-Filter-clause-same t c =
     let known = c.args.known.now.items in
     let start = c.in_ok-start-in-Filter.start in
     let predicates = c.in_ok-predicates-in-Filter.predicates in
-    let found = c.in_ok-kept-in-Filter.kept in
-    let now = c.deref-in-Filter.ensures.value ∙ c.in_ok-predicates-in-Filter.ensures.kept ∙ c.in_ok-start-in-Filter.ensures.kept in
-    gives_at known c.args.plan (plan.Filter c.in-Filter.start c.in-Filter.predicates) (plan.Filter start found) c.in-Filter.is
-    (forms.then_gives known (plan.Filter c.in-Filter.start c.in-Filter.predicates) (plan.Filter start predicates) (plan.Filter start found)
+    let now = c.in_ok-predicates-in-Filter.ensures.kept ∙ c.in_ok-start-in-Filter.ensures.kept in
+    IfOk-weaker c.filter.result _ _
+    (λ found h. gives_at known c.args.plan (plan.Filter c.in-Filter.start c.in-Filter.predicates) found c.in-Filter.is
+    (forms.then_gives known (plan.Filter c.in-Filter.start c.in-Filter.predicates) (plan.Filter start predicates) found
     (forms.filter_gives known c.in-Filter.start start c.in-Filter.predicates predicates c.in_ok-start-in-Filter.ensures.same
     (all_known_at GivesSame known c.boxed-in-Filter.new.known.items c.in-Filter.predicates predicates c.in_ok-start-in-Filter.ensures.kept c.in_ok-predicates-in-Filter.ensures.same))
-    (subst (λ k. GivesSame k (plan.Filter start predicates) (plan.Filter start found)) now
-    (subst (λ p. GivesSame c.deref-in-Filter.result.now (plan.Filter p predicates) (plan.Filter p found)) c.get.ensures c.in_ok-kept-in-Filter.ensures)))
+    (subst (λ k. GivesSame k (plan.Filter start predicates) found) now h))) c.filter.ensures.same
 
 pub expression-returns-in_ok-list-in-Path-clause-same : goal.expression-returns-in_ok-list-in-Path-clause-same
 expression-returns-in_ok-list-in-Path-clause-same t c =
     let known = c.args.known.now.items in
     let start = c.in_ok-start-in-Path.start in
     let list = c.in_ok-list-in-Path.list in
-    let now = c.deref-in-Path.ensures.value ∙ c.in_ok-list-in-Path.ensures.kept ∙ c.in_ok-start-in-Path.ensures.kept in
+    let now = c.in_ok-list-in-Path.ensures.kept ∙ c.in_ok-start-in-Path.ensures.kept in
     IfOk-weaker c.path.result _ _
     (λ found h. gives_at known c.args.plan (plan.Path c.in-Path.start c.in-Path.list) found c.in-Path.is
     (forms.then_gives known (plan.Path c.in-Path.start c.in-Path.list) (plan.Path start list) found
     (forms.path_gives known c.in-Path.start start c.in-Path.list list c.in_ok-start-in-Path.ensures.same
     (all_known_at SameStep known c.boxed-in-Path.new.known.items c.in-Path.list list c.in_ok-start-in-Path.ensures.kept c.in_ok-list-in-Path.ensures.same))
-    (subst (λ k. GivesSame k (plan.Path start list) found) now h))) c.path.ensures
+    (subst (λ k. GivesSame k (plan.Path start list) found) now h))) c.path.ensures.same
 
 pub expression-returns-in_ok-calls-in-Arrow-clause-same : goal.expression-returns-in_ok-calls-in-Arrow-clause-same
 expression-returns-in_ok-calls-in-Arrow-clause-same t c =
