@@ -225,8 +225,8 @@ pub struct ChosenChild<'a> {
 }
 
 /// What `//` and then those children lead to from all items, which are nodes of trees, where their
-/// predicate compares an attribute with the string of a variable as values. None where it is no such
-/// predicate.
+/// predicate compares an attribute with the string of a variable as values. None where it is no
+/// such predicate.
 fn below_by_value_key<W: TreeStore>(
     alloc: Global,
     world: &mut W,
