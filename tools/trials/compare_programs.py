@@ -113,6 +113,8 @@ QUERIES = (
     'let $k := ({path}/@id/string(), "1", "2", "3", "x") return count(doc("d")//{name}[@id = $k])',
     'let $k := ({path}/string(), "x", {number}) return count({path}[{name} = $k])',
     'for $k in 1 to {number} return count(doc("d")//{name}[@id eq string($k) and {other}])',
+    'for $k in (0 to {number}, "x") return doc("d")//{name}[@id eq string($k)]/{other}/string(@id)',
+    "for $k in {path}/@id return count(({path}, {path})//{name}[string($k) eq @id])",
     'let $l := {path} for $k in 1 to {number} return $l[@id eq string($k)][{name}]/string(@id)',
     'let $l := ({path}, {number}) return for $i in (3, 1, {number}) return string($l[$i][{name}])',
     "let $l := {path} return $l[{name}][position() = 1 to {number}][last()]/string(@id)",

@@ -1,5 +1,5 @@
 -- Predicates that ask nodes for a text, and steps with them.
-use Rattle.std.proofs.Common.{◌≡◌, ◌<◌, ◌≤◌, List, [], ◌∷◌, map, length, get_or, Bool, Ok, Err, sym, ◌∙◌, ap, subst, arith}
+use Rattle.std.proofs.Common.{◌≡◌, ◌<◌, ◌≤◌, List, [], ◌∷◌, map, length, get_or, Bool, Ok, Err, refl, sym, ◌∙◌, ap, subst, arith}
 use Rattle.std.specs.Prelude.{filter, ℕ, IfOk, IsErrAnd, Option, Result}
 use Rattle.std.specs.Global.{Vec}
 use Rattle.std.specs.List.{AllByRecursion, flat_map}
@@ -19,7 +19,7 @@ use Rattle.xq_meaning.specs.declared.plans.Plan.{Plan}
 use Rattle.xq_meaning.specs.declared.plans.Plan.TheVariants as plan
 use Rattle.xq_meaning.specs.declared.plans.PlanStep.{PlanStep}
 use Rattle.xq_meaning.specs.declared.plans.PlanStep.TheVariants as plan_step
-use Rattle.xq_meaning.specs.Arguments.{all_nodes, boolean}
+use Rattle.xq_meaning.specs.Arguments.{all_nodes}
 use Rattle.xq_meaning.specs.Doing.{Doing, Outcome, go_on, judged, on_trees}
 use Rattle.xq_meaning.specs.Forms as Forms
 use Rattle.xq_meaning.specs.Items.{Place, Item, Node, Atom, in_document_order}
@@ -29,12 +29,9 @@ use Rattle.xq_meaning.specs.Readings.{items_at, IsIn, AreIn}
 use Rattle.xq_meaning.specs.Steps.{axis_nodes}
 use Rattle.xq_meaning.proofs.PlanEquations.{plan-Step, step-Each, step-Scan}
 use Rattle.xq_operators.specs.Views.{tuple_at, after_double_slash, GivesSequence}
-use Rattle.xq_joins.specs.declared.equalities.TextTest.{TextTest}
-use Rattle.xq_joins.specs.declared.keyed.KeyedTest.{KeyedTest}
-use Rattle.xq_joins.specs.Equalities.{leads_to_text, on_nodes, Asks, IsNodeOf, IsTextTestIn, Keeps}
-use Rattle.xq_joins.specs.Keyed.{leads_to_key, IsKeyedTest}
+use Rattle.xq_joins.specs.Equalities.{on_nodes, Asks, IsNodeOf, IsTreeAt, Keeps}
 use Rattle.xq_joins.specs.Keys.{IsNode}
-use Rattle.xq_joins.proofs.Kept.{In, items_filtered, scan_by_test, any_nodes, any_items, asking_keeps, each_in, ordered_in}
+use Rattle.xq_joins.proofs.Kept.{In, items_filtered, scan_by_test, any_nodes, any_items, asking_keeps, each_in, items_in_trees, ordered_in}
 use Rattle.xq_joins.proofs.Walks.{then_stays, scan_stays}
 use Rattle.xq_eval.specs.private.Texts.{GivesFound}
 
@@ -155,17 +152,20 @@ pub scan_kept : (ask : List Tree → Place → Bool) (slots : Tuple ItemView) (p
 scan_kept ask slots p f f1 f2 is frame env of xs found kept first are keeps =
     scan_tested (λ t. any) ask slots p f f1 f2 (asking_keeps f slots (ask f) p is) frame env of xs (any_nodes (all_nodes XPTY0019 xs)) found kept first are keeps
 
--- with one text alone
-pub only_asks : (f : List Tree) (slots : Tuple ItemView) (found : KeyedTest) (only : TextTest) (p : Plan) → IsKeyedTest f slots found p → ((trees : List Tree) (q : Place) → leads_to_text trees only q ≡ leads_to_key trees found q)
-    → IsTextTestIn f slots only p
-only_asks f slots found only p is same = record {
-  says = λ frame place position last env. is.says frame place position last env ∙ ap (λ b. (Ok (boolean b), f)) (sym (same f place));
-}
-
 -- a refusal that `?` hands on
 pub found_stop : (whole : Outcome (List Item)) (f : List Tree) (e : Fault) (r : Result (Option (Vec Held)) Fault) → IsErrAnd r (λ e'. e' ≡ e) → GivesSequence whole f (Err e) → GivesFound whole f r
 found_stop whole f e (Err e') h g = subst (λ x. GivesSequence whole f (Err x)) (sym h) g
 found_stop whole f e (Ok v) h g = elim h [ ]
+
+-- what is given after `//`, where the predicate keeps nodes of trees, also over the same trees later
+pub value_given : (passing : List Tree → Place → Bool) (slots : Tuple ItemView) (p : Plan) → ((trees : List Tree) → Keeps trees slots (IsTreeAt trees) (passing trees) p) → (frame : Frame) (f f1 f' : List Tree) → f1 ≡ f → frame.env ≡ tuple_at f slots
+    → (of : Test) (views : List ItemView) → AreIn f views → AllByRecursion (IsNodeOf (IsTreeAt f)) views → (r : Result (Vec Held) Fault)
+    → (AreIn f1 views → AllByRecursion (IsNodeOf (IsTreeAt f1)) views → frame.env ≡ tuple_at f1 slots → GivesSequence (go_on (after_double_slash of (items_at f1 views) f1) (λ ys. Forms.filtered frame ys (plan_mean p))) f' r)
+    → GivesSequence (go_on (Forms.scan DescendantOrSelf Any (items_at f views) f) (λ ys. plan_step_mean (plan_step.Each (plan.Step Child of (p ∷ []))) frame ys)) f' r
+value_given passing slots p is frame f f1 f' same env of views items_in nodes r given =
+    let then_test = λ (ys : List Item). Forms.filtered frame ys (plan_mean p) in
+    let here = subst (λ (h : List Tree). AreIn h views → AllByRecursion (IsNodeOf (IsTreeAt h)) views → frame.env ≡ tuple_at h slots → GivesSequence (go_on (after_double_slash of (items_at h views) h) then_test) f' r) same given items_in nodes env in
+    subst (λ (o : Outcome (List Item)). GivesSequence o f' r) (sym (test_step_is f slots (IsTreeAt f) (passing f) p (is f) frame env (plan_step.Each (plan.Step Child of (p ∷ []))) of (items_at f views) refl (items_in_trees (IsTreeAt f) f views nodes))) here
 
 -- the element of a list of one
 pub only_one : {A : Type 0} (xs : List A) (x : A) → x ≡ get_or xs 0 x → 1 ≤ length xs → length xs < 2 → xs ≡ x ∷ []

@@ -20,8 +20,8 @@ ghost use Rattle.xq_eval.specs.private.Texts.{GivesFound, IsValueStep};
 use std::alloc::Global;
 use xq_atoms::{Fault, Want};
 use xq_joins::{
-    KeyedTest, TextTest, are_in_trees, are_nodes, keep_by_key, keep_by_text, keyed_test,
-    only_text_test, text_test, value_key_test, value_test,
+    KeyedTest, TextTest, are_in_trees, are_nodes, keep_by_key, keep_by_text, keyed_test, text_test,
+    value_key_test, value_test,
 };
 use xq_meaning::{Plan, Test};
 use xq_operators::{EvalContext, double_slash, scan};
@@ -197,14 +197,15 @@ fn double_slash_by_key<W: TreeStore>(
         → GivesSequence (go_on (after_double_slash test.now
         (items_at (W.forest world.old) (map item_view items.now)) (W.forest world.old))
         (λ xs. Forms.filtered frame xs (plan_mean p))) (W.forest world.new) result }
+    ensures in_trees { W.is_clean world.new → AreIn (W.forest world.old) (map item_view items.now)
+        → AllByRecursion (IsNodeOf (IsTreeAt (W.forest world.old))) (map item_view items.now)
+        → (slots : Tuple ItemView) (p : PlanLem) (frame : Meant)
+        → IsValueKeyTest slots predicate.now p
+        → frame.env ≡ tuple_at (W.forest world.old) slots
+        → GivesSequence (go_on (after_double_slash test.now
+        (items_at (W.forest world.old) (map item_view items.now)) (W.forest world.old))
+        (λ xs. Forms.filtered frame xs (plan_mean p))) (W.forest world.new) result }
 {
-    if let Some(only) = only_text_test(predicate) {
-        let step = TextStep {
-            test,
-            predicate: only,
-        };
-        return double_slash_by_text(alloc, world, items, step);
-    }
     let found = double_slash(alloc, world, items, test)?;
     Ok(keep_by_key(alloc, world, &found, predicate)?)
 }
@@ -224,7 +225,37 @@ pub struct ChosenChild<'a> {
 }
 
 /// What `//` and then those children lead to from all items, which are nodes of trees, where their
-/// predicate compares an attribute with a text as values. None where it is no such predicate.
+/// predicate compares an attribute with the string of a variable as values. None where it is no
+/// such predicate.
+fn below_by_value_key<W: TreeStore>(
+    alloc: Global,
+    world: &mut W,
+    frame: EvalContext<'_>,
+    items: &[Item],
+    step: ChosenChild<'_>,
+) -> Result<Option<Items>, Fault>
+    ensures goes { Goes (W.forest world.old) (W.forest world.new) (W.is_clean world.old)
+        (W.is_clean world.new) }
+    ensures keeps { IfOk result (λ found. found ≡ None
+        → W.forest world.new ≡ W.forest world.old) }
+    ensures gives { W.is_clean world.new → AreIn (W.forest world.old) (map item_view items.now)
+        → (meant : Meant)
+        → meant.env ≡ tuple_at (W.forest world.old) (values_of frame.entry.slots.now)
+        → GivesFound (go_on (Forms.scan Axis.DescendantOrSelf Test.Any (items_at
+        (W.forest world.old) (map item_view items.now)) (W.forest world.old)) (λ xs. plan_step_mean
+        (plan_step.Each (plan_of.Step Axis.Child step.entry.test.now
+        (step.entry.predicate.now ∷ []))) meant xs)) (W.forest world.new) result }
+{
+    let Some(key) = value_key_at(alloc, world, frame.slots, step.predicate, items)? else {
+        return Ok(None);
+    };
+    let kept = double_slash_by_key(alloc, world, items, step.test, &key)?;
+    Ok(Some(kept))
+}
+
+/// What `//` and then those children lead to from all items, which are nodes of trees, where their
+/// predicate compares an attribute with a text as values, or with the string of a variable. None
+/// where it is no such predicate.
 fn below_by_value<W: TreeStore>(
     alloc: Global,
     world: &mut W,
@@ -245,7 +276,7 @@ fn below_by_value<W: TreeStore>(
         (step.entry.predicate.now ∷ []))) meant xs)) (W.forest world.new) result }
 {
     let Some(predicate) = value_test_at(alloc, world, frame.slots, step.predicate, items)? else {
-        return Ok(None);
+        return below_by_value_key(alloc, world, frame, items, step);
     };
     let test = TextStep {
         test: step.test,
