@@ -19,7 +19,7 @@ use xq_meaning::{Plan, PlanStep, Test};
 use xq_trees::Axis;
 
 /// Whether the last of the steps is `descendant-or-self::node()`, for which `//` stands.
-fn ends_in_double_slash(steps: &[PlanStep]) -> bool {
+pub fn ends_in_double_slash(steps: &[PlanStep]) -> bool {
     let Some(PlanStep::Scan(Axis::DescendantOrSelf, test)) = steps.last() else {
         return false;
     };

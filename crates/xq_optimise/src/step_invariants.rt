@@ -14,7 +14,7 @@ ghost use Rattle.xq_optimise.specs.private.Parts.{IsHeld};
 use crate::held::Held;
 use crate::invariants::{LiftedFirst, after_both, lifted_first, may_lift};
 use crate::kinds::{end_in_step, gives_nodes, held_by};
-use crate::scanned;
+use crate::scanned::{self, ends_in_double_slash};
 use sqlite_items::{Boxed, Items};
 use std::alloc::{AllocError, Global};
 use xq_meaning::{Plan, PlanStep, Test};
@@ -143,6 +143,37 @@ fn with_predicates(
     }
 }
 
+/// Whether the part is a literal or a slot.
+fn is_plain(plan: &Plan) -> bool {
+    match plan {
+        Plan::Int(_) => true,
+        Plan::Dec(_) => true,
+        Plan::Str(_) => true,
+        Plan::Slot(_) => true,
+        _ => false,
+    }
+}
+
+/// Whether the part is dear at each node: more than a call with literals and slots.
+fn is_dear(plan: &Plan) -> bool {
+    match plan {
+        Plan::Call(_, parts) => parts.as_slice().iter().any(|part| !is_plain(part)),
+        _ => !is_plain(plan),
+    }
+}
+
+/// Whether it is worth the while to evaluate a part of a comparison before all steps. After `//` these
+/// hold all nodes then, so the part has to be a dear one.
+fn is_worth(before: &[PlanStep], predicates: &[Plan]) -> bool {
+    if !ends_in_double_slash(before) {
+        return true;
+    }
+    let Some(Plan::Chain(_, rest)) = predicates.first() else {
+        return false;
+    };
+    rest.as_slice().iter().any(|(_, side)| is_dear(side))
+}
+
 /// A path with a step more.
 fn with_step(
     alloc: Global,
@@ -159,6 +190,7 @@ fn with_step(
         Plan::Step(axis, test, predicates) => {
             if leads_to_nodes(known, start.get(), before.as_slice())
                 && may_lift(known, predicates.as_slice())
+                && is_worth(before.as_slice(), predicates.as_slice())
             {
                 return with_predicates(alloc, known, start, before, axis, test, predicates);
             }
