@@ -16,6 +16,7 @@ from tools.gate.plan_forms import Form
 RULES = {
     "comparisons": "an equality stands before other predicates that ask the node alone",
     "filters": "a predicate that compares a key of each item is a group join",
+    "first_tests": "a `where` after the first `for` is a predicate of what that ranges over",
     "firsts": "a `where` up to a position is a predicate of the `for` before it",
     "group_joins": "a `let` of what a join keeps of its range is a group join",
     "group_returns": "a group join that is returned or counted is a clause",
@@ -24,6 +25,7 @@ RULES = {
     "narrow": "a `where` that compares with a text is a predicate of the `for` before it",
     "nested": "a FLWOR goes on with the clauses of one that it returns",
     "order": "an equality stands before clauses that it doesn't need",
+    "plain_tests": "a predicate compares a key without `.`, `data(..)` or `string(..)`",
     "positions": "`position()` stands first in a general comparison with a number",
     "predicates": "a conjunction in a predicate is as many predicates",
     "range_joins": "a `for` over what a predicate keeps, by a key of the tuple, is a `join`",
@@ -31,6 +33,7 @@ RULES = {
     "scanned": "predicates are judged over all nodes of a scan",
     "some_pairs": "`some` of one pair of texts is a general comparison",
     "step_invariants": "a part that is the same at each node of a step is evaluated before all",
+    "unused_lets": "a `let` at the end of the clauses that nothing reads is left out",
     "wheres": "the first conjuncts of a `where` are as many `where` clauses",
     "written": "a variable that an equality reads is written out",
 }
@@ -118,11 +121,38 @@ def is_position(form: Form) -> bool:
 
 
 def of_chain(before: Form, after: Form) -> Marks | None:
-    """The rule that turns a comparison of the position."""
+    """The rule that turns a comparison of the position, or that takes keys in their plain form."""
     old, new = position_test(before), position_test(after)
-    if old is None or new is None or old[0] != new[0] or old[1].words != new[1].words:
+    if old is None or new is None:
+        return of_plain(before, after)
+    if old[0] != new[0] or old[1].words != new[1].words:
         return None
     return [(after, "positions")]
+
+
+def plain_key(side: Form) -> Form:
+    """The side of a comparison without `data(..)` or `string(..)` around it, and without `.`
+    before its steps."""
+    if side.word == "call" and side.words in (("data",), ("string",)):
+        [side] = side.parts
+    if side.word != "path" or side.parts[0].word != "context-item":
+        return side
+    first, *more = side.parts[1:]
+    start = Form("step", first.words, first.parts) if first.word == "scan" else first.parts[0]
+    return Form("path", (), (start, *more)) if more else start
+
+
+def of_plain(before: Form, after: Form) -> Marks | None:
+    """The rule that takes the keys of a comparison in their plain form."""
+    if len(before.parts) != 2 or len(after.parts) != 2:
+        return None
+    olds, news = ((it.parts[0], it.parts[1].parts[0]) for it in (before, after))
+    operators = tuple(it.parts[1].words for it in (before, after))
+    if operators[0] != operators[1] and operators != (("=",), ("eq",)):
+        return None
+    plain = tuple(plain_key(it) for it in olds)
+    found = in_turn(plain, news)
+    return None if found is None or plain == olds else [(after, "plain_tests"), *found]
 
 
 def of_predicates(before: Sequence[Form], after: Sequence[Form]) -> Marks | None:
@@ -277,9 +307,14 @@ def of_variable(side: Form, slot: Form) -> Form:
     if side.word == "context-item":
         return slot
     first, *more = side.parts if side.word == "path" else (side,)
-    if first.word != "step":
-        return side
-    return Form("path", (), (slot, Form("scan", first.words, first.parts), *more))
+    if first.word == "step" and len(first.parts) == 1:
+        return Form("path", (), (slot, Form("scan", first.words, first.parts), *more))
+    if side.word in ("call", "chain", "operand", "path"):
+        parts = (*(of_variable(it, slot) for it in side.parts[:1]), *side.parts[1:])
+        if side.word != "path":
+            parts = tuple(of_variable(it, slot) for it in side.parts)
+        return Form(side.word, side.words, parts)
+    return side
 
 
 def slots(form: Form) -> Iterator[Form]:
@@ -320,6 +355,7 @@ def joined_out(join: Form, olds: Iterable[Form]) -> tuple[Form, ...]:
 def narrowed_out(clause: Form, olds: Sequence[Form]) -> tuple[Form, ...]:
     """The `for` and the `where` that a `for` over a filter stands for, or the clause itself."""
     range_ = clause.parts[0] if clause.word == "for" else clause
+    range_ = evaluated_late(range_) or range_
     if range_.word != "filter" or range_.parts[-1].word != "chain":
         return (clause,)
     start, *others, (first, operand) = (*range_.parts[:-1], range_.parts[-1].parts)
@@ -382,9 +418,9 @@ def in_place(form: Form, slot: str, value: Form) -> Form:
     return Form(form.word, form.words, parts)
 
 
-def of_lifted(before: Form, after: Form) -> Marks | None:
-    """The rules where the items, and then a part of a predicate, are evaluated first."""
-    match after.parts:
+def evaluated_late(form: Form) -> Form | None:
+    """The items that predicates keep where a part of the first of them is evaluated before all."""
+    match form.parts:
         case (Form("let", _, (items,)), Form("return", _, (Form("flwor", _, (
                 Form("let", _, (Form("if", _, (_, Form("then", _, (part,)), _)),)),
                 Form("return", _, (whole,)))),))):
@@ -397,8 +433,13 @@ def of_lifted(before: Form, after: Form) -> Marks | None:
     if start.word != "slot":
         return None
     slot = start.words[0]
-    written = in_place(in_place(whole, str(int(slot) + 1), part), slot, items)
-    found = derived(before, written)
+    return in_place(in_place(whole, str(int(slot) + 1), part), slot, items)
+
+
+def of_lifted(before: Form, after: Form) -> Marks | None:
+    """The rules where the items, and then a part of a predicate, are evaluated first."""
+    written = evaluated_late(after)
+    found = None if written is None else derived(before, written)
     return None if found is None else [(after, OF_LIFTED[before.word]), *found]
 
 
@@ -475,6 +516,18 @@ def of_clauses(before: Sequence[Form], after: Sequence[Form]) -> Marks | None:
         later in places[:places.index(it)] for later in after[number:])]
 
 
+def of_used_clauses(before: Sequence[Form], after: Sequence[Form], last: Form) -> Marks | None:
+    """The rules among clauses, of which up to two that nothing reads may have been left out."""
+    lets = [number for number, it in enumerate(before) if it.word == "let"]
+    for count in range(3):
+        left_out = lets[len(lets) - count:] if count <= len(lets) else []
+        used = [it for number, it in enumerate(before) if number not in left_out]
+        found = of_clauses(used, after) if len(left_out) == count else None
+        if found is not None:
+            return [*found, *((last, "unused_lets") for _ in left_out[:1])]
+    return None
+
+
 def of_flwor(before: Form, after: Form) -> Marks | None:
     """The rules in a FLWOR expression."""
     found = of_parts(before, after)
@@ -498,7 +551,12 @@ def of_returned_group(before: Form, after: Form) -> Marks | None:
 
 def rule_of(clause: Form) -> str:
     """The rule by which a `for` ranges over a filter in place of a `where` after it."""
-    return "firsts" if "at" in clause.words else "narrow"
+    if "at" in clause.words:
+        return "firsts"
+    range_ = clause.parts[0]
+    operator = range_.parts[-1].parts[-1] if range_.word == "filter" else None
+    is_general = operator is not None and operator.words[0] in TURNED
+    return "narrow" if is_general else "first_tests"
 
 
 def of_parts(before: Form, after: Form) -> Marks | None:
@@ -519,7 +577,7 @@ def of_parts(before: Form, after: Form) -> Marks | None:
         clauses += written
         of_join |= dict.fromkeys(written, clause) if len(written) > 1 else {}
         narrowed += [clause] if clause.word == "for" and len(written) > 1 else []
-    found = of_clauses(olds, clauses)
+    found = of_used_clauses(olds, clauses, after.parts[-1])
     result = derived(returned, after.parts[-1].parts[0])
     if found is None or result is None:
         return None

@@ -15,7 +15,8 @@ from tools.gate.plan_forms import Form, Layout
 from tools.rows import tables
 
 # Files of the optimiser that are no rule: the pass, and what its rules ask.
-NO_RULES = {"focus", "held", "kinds", "lib", "lists", "outside", "scopes", "sure", "walk"}
+NO_RULES = {"at_nodes", "copies", "focus", "held", "kinds", "lib", "lists", "outside", "scopes",
+            "sure", "walk"}
 FORM = ('(flwor (for at (call doc (string "a b"))) (join eq (path (slot 0) (scan child (element)))'
         ' (carried 0) (key value 2 (scan child (element "a")) (scan attribute (attribute "id")))'
         ' (key string 1 (scan child (text))))'
@@ -108,6 +109,7 @@ DERIVED = (
 # Of each rule a query to which it applies.
 QUERIES = {
     "comparisons": 'doc("x")/a/b[c][@id = "1"]/d',
+    "first_tests": 'for $a in doc("x")//a where xs:integer($a/@id) < count(doc("x")//b) return $a',
     "firsts": 'for $a at $n in doc("x")//a where $n <= 10 return $a',
     "filters": 'for $a in doc("x")//a let $m := doc("x")/r/b[c = $a/c] return $m',
     "group_joins": 'for $a in doc("x")//a let $m := for $b in doc("x")//b where $b/c = $a/c'
@@ -119,6 +121,7 @@ QUERIES = {
     "narrow": 'for $a in doc("x")//a where $a/@id = "1" return $a/b',
     "nested": 'for $a in doc("x")//a return for $b in doc("x")//b where $b/@id = $a/@id return $b',
     "order": 'for $a in doc("x")//a let $c := $a/c where $c where $a/@id = "1" return $a',
+    "plain_tests": 'doc("x")/a[string(@id) = "1"]',
     "positions": 'doc("x")/a[3 eq position()]',
     "predicates": 'doc("x")/a[b and position() < 3]',
     "range_joins": 'for $a in doc("x")//a, $b in doc("x")/r/b[c = $a/c] return $b',
@@ -126,6 +129,7 @@ QUERIES = {
     "scanned": 'doc("x")/a/b[@id = "1"]/c',
     "some_pairs": 'for $a at $n in doc("x")//a where some $b in $a/b satisfies $b = "1" return $n',
     "step_invariants": 'doc("x")//a[@id = max(doc("x")//a/xs:integer(@id))]',
+    "unused_lets": 'for $a in doc("x")//a let $b := $a/b return $a',
     "wheres": 'for $a in doc("x")//a where $a/b and $a/@id = "1" return $a',
     "written": 'for $a in doc("x")//a let $b := $a/b where $b = $a/c return $a',
 }

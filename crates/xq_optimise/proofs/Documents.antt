@@ -9,7 +9,6 @@ use Rattle.xq_meaning.specs.declared.plans.Plan.TheVariants as plan
 use Rattle.xq_meaning.specs.declared.plans.PlanClause.{PlanClause}
 use Rattle.xq_meaning.specs.declared.plans.PlanStep.{PlanStep}
 use Rattle.xq_meaning.specs.declared.plans.PlanStep.TheVariants as step
-use Rattle.xq_plan.specs.Scans.{path_of_scans}
 use Rattle.xq_optimise.specs.Scans.{IsNoPathOfScans}
 use Rattle.xq_optimise.specs.private.Parts.{IsScan}
 

@@ -100,14 +100,14 @@ sides_compare next join p (a, b, is, none, left, right) frame long place positio
     (λ xs g. ap (λ o. go_on (go_on o (λ ys. on_trees (λ trees. operated op trees xs ys))) (λ next. give next)) (right frame long place position last g))
 
 -- what a comparison gives keeps as a predicate what it keeps as a test
-abbrev KeepsAlike : Judged (List Item) → Type 0
+abbrev pub KeepsAlike : Judged (List Item) → Type 0
 KeepsAlike r = (position : ℕ) (f : List Tree) → go_on (r, f) (λ v. judged (keeps position v)) ≡ go_on (r, f) (λ v. judged (effective v))
 
-boolean_alike : (r : Judged Bool) → KeepsAlike (as_boolean r)
+pub boolean_alike : (r : Judged Bool) → KeepsAlike (as_boolean r)
 boolean_alike (Ok b) position f = refl
 boolean_alike (Err code) position f = refl
 
-both_alike : (judge : List Atomic → Judged Atomic) (compare : Atomic → Atomic → Judged Bool) (as' bs : List Atomic) →
+pub both_alike : (judge : List Atomic → Judged Atomic) (compare : Atomic → Atomic → Judged Bool) (as' bs : List Atomic) →
     KeepsAlike (of_both judge (λ a b. as_boolean (compare a b)) as' bs)
 both_alike judge compare [] bs position f = refl
 both_alike judge compare (a ∷ as') [] position f = refl

@@ -15,7 +15,7 @@ use Rattle.xq_meaning.proofs.SameForms.{go_on_same}
 -- # Tests of all, and then those that pass
 
 module _ {A : Type 0} (test : A → Doing Bool) where
-  abbrev kept : A → Doing (List A)
+  abbrev pub kept : A → Doing (List A)
   kept x = test x >>= (λ keep. give (Forms.kept_if x keep))
 
   satisfying_next : (ps : List A) (bs : List Bool) (x : A) (b : Bool) → length bs ≡ length ps → satisfying (ps ++ x ∷ []) (bs ++ b ∷ []) ≡ satisfying ps bs ++ Forms.kept_if x b
@@ -46,14 +46,14 @@ module _ {A : Type 0} (test : A → Doing Bool) where
 
 -- # Tuples of one item
 
-abbrev row : Item → Tuple Item
+abbrev pub row : Item → Tuple Item
 row x = (x ∷ []) ∷ []
 
 rows_from : (n : ℕ) (xs : List Item) → map (λ p. [] ++ item_values Atom false p.0 p.1) (enumerate_from n xs) ≡ map row xs
 rows_from n [] = refl
 rows_from n (x ∷ xs) = ap (λ l. row x ∷ l) (rows_from (n + 1) xs)
 
-expanded_one : (xs : List Item) → expanded Atom false false ([] ∷ []) (xs ∷ []) ≡ map row xs
+pub expanded_one : (xs : List Item) → expanded Atom false false ([] ∷ []) (xs ∷ []) ≡ map row xs
 expanded_one xs =
     flat_map-cons (λ (p : Tuple Item × List Item). with_items Atom false false p.0 p.1) ([], xs) []
     ∙ append-nil (with_items Atom false false [] xs) ∙ rows_from 1 xs

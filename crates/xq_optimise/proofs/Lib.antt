@@ -17,6 +17,7 @@ pub mod KindLaws
 pub mod NodesAtOnce
 pub mod WholePaths
 pub mod EqualitiesFirst
+pub mod Rows
 pub mod Rising
 pub mod JoinLaws
 pub mod Leaving
@@ -34,9 +35,13 @@ pub mod GroupMatches
 pub mod RangeJoins
 pub mod StepGroups
 pub mod NarrowRanges
+pub mod AtNodes
+pub mod FirstTests
+pub mod PlainTests
 pub mod GroupReturns
 pub mod TupleByTuple
 pub mod NestedReturns
 pub mod WrittenOut
 pub mod Conditionals
 pub mod OnePair
+pub mod UnusedLets

@@ -1,8 +1,7 @@
 -- A part of a predicate that is the same at each item may as well be evaluated before all of them.
-use Rattle.std.proofs.Common.{◌≡◌, ℕ, zero, suc, ◌+◌, ◌<◌, List, [], ◌∷◌, ◌++◌, map, reverse, length, Bool, true, false, Ok, Err, refl, sym, ap, ◌∙◌, subst, inr, arith}
+use Rattle.std.proofs.Common.{◌≡◌, ℕ, zero, suc, ◌+◌, ◌<◌, List, [], ◌∷◌, ◌++◌, map, reverse, length, Bool, true, false, Ok, Err, refl, sym, ap, ◌∙◌, subst, inl, inr, arith}
 use Rattle.std.specs.Prelude.{Option, Some, None}
 use Rattle.std.specs.List.{AllByRecursion}
-use Rattle.std.proofs.lemmas.Bool.{false≢true}
 use Rattle.std.proofs.lemmas.List.{append_assoc, append-nil, length-append, reverse-append, reverse-reverse}
 use Rattle.xq_atoms.specs.Judged.{Judged}
 use Rattle.xq_atoms.specs.Text.{Text}
@@ -16,24 +15,29 @@ use Rattle.xq_meaning.specs.declared.plans.PlanClause.TheVariants as clause
 use Rattle.xq_meaning.specs.Arguments.{effective}
 use Rattle.xq_meaning.specs.Doing.{Outcome, go_on, give, judged, on_trees, in_turn, more}
 use Rattle.xq_meaning.specs.Forms
-use Rattle.xq_meaning.specs.Functions.{Focus}
+use Rattle.xq_expressions.specs.declared.signatures.Function.TheVariants.{Head}
+use Rattle.xq_meaning.specs.Functions.{Focus, called, head}
 use Rattle.xq_meaning.specs.Items.{Item, Place, Node}
 use Rattle.xq_meaning.specs.Operators.{keeps, operated}
 use Rattle.xq_meaning.specs.PlanMeaning.{Slots, Frame, Meaning, ClauseMeaning, at_tuple, opened, plan_mean}
 use Rattle.xq_meaning.specs.Same.{frame_of}
-use Rattle.xq_meaning.specs.Steps.{focuses, focuses_from}
+use Rattle.xq_meaning.specs.Steps.{focuses_from, is_reverse}
+use Rattle.xq_trees.specs.declared.Axis.{Axis}
 use Rattle.xq_meaning.proofs.PlanEquations as plan_eq
 use Rattle.xq_meaning.proofs.SameForms.{AreRelated}
 use Rattle.xq_optimise.specs.declared.held.Held.{Held}
 use Rattle.xq_optimise.specs.declared.held.Held.TheVariants as has
+use Rattle.xq_optimise.specs.declared.invariants.Lifted.TheVariants as lifted
 use Rattle.xq_optimise.specs.Known.{Holds, Fits}
 use Rattle.xq_optimise.specs.Same.{GivesSame}
-use Rattle.xq_optimise.specs.Sure.{on_node, IgnoresFocus, SurelyFinds}
-use Rattle.xq_optimise.specs.private.Invariants.{GivesThere, with_both, IsLifted, LiftsFirst, let_in, only_if}
+use Rattle.xq_optimise.specs.Sure.{on_node, IgnoresFocus, IgnoresPosition}
+use Rattle.xq_optimise.specs.private.Invariants.{GivesThere, with_both, IsLifted, IsFirstTested, IsNear, IsNearBy, LiftsFirst, LiftsTo, first_with, let_in, only_if}
 use Rattle.xq_optimise.specs.private.Joins.{IsOutside, LeavesTrees}
 use Rattle.xq_optimise.specs.private.Parts.{GivesHeld, IsHeld}
 use Rattle.xq_optimise.proofs.Fitting.{fits_length, fits_more}
+use Rattle.xq_optimise.proofs.FocusFree.{of_position, sequence_free}
 use Rattle.xq_optimise.proofs.Leaving.{chain_quiet}
+use Rattle.xq_optimise.proofs.SlotsOutside.{sequence_outside}
 use Rattle.xq_optimise.proofs.SameTrees.{Alike, predicates_here, then_here}
 
 -- # A value in the next slot
@@ -60,12 +64,64 @@ lone_let value whole slots focus addresses f =
     by (Ok xs, g) = one_returned (plan_mean whole (frame_of (opened slots xs) focus addresses) g)
     by (Err code, g) = refl
 
+-- where the test is told, or is refused
 guarded : (test part : Plan) (frame : Frame) (f : List Tree) (truth : Bool) → Forms.tested (plan_mean test) frame f ≡ (Ok truth, f) →
     plan_mean (only_if test part) frame f ≡ Forms.chosen truth (plan_mean part) (λ here. give []) frame f
 guarded test part frame f truth told =
     ap (λ m. m frame f) (plan_eq.plan-If test part (plan.Sequence []))
     ∙ ap (λ o. go_on o (λ answer. Forms.chosen answer (plan_mean part) (plan_mean (plan.Sequence [])) frame)) told
     ∙ ap (λ m. Forms.chosen truth (plan_mean part) m frame f) (plan_eq.plan-Sequence [])
+
+guard_refused : (test part : Plan) (frame : Frame) (f : List Tree) (code : Code) → Forms.tested (plan_mean test) frame f ≡ (Err code, f) → plan_mean (only_if test part) frame f ≡ (Err code, f)
+guard_refused test part frame f code told =
+    ap (λ m. m frame f) (plan_eq.plan-If test part (plan.Sequence []))
+    ∙ ap (λ o. go_on o (λ answer. Forms.chosen answer (plan_mean part) (plan_mean (plan.Sequence [])) frame)) told
+
+-- # The first of some nodes, and a part with it in focus
+
+module _ (items near : Plan) (frame : Frame) (f : List Tree) where
+  -- the part with a node in focus
+  abbrev pub near_at : Place → Outcome (List Item)
+  near_at r = plan_mean near (Forms.in_focus frame (on_node r 1 1)) f
+
+  abbrev told_of : List Place → Outcome Bool
+  told_of [] = (Ok false, f)
+  told_of (r ∷ qs) = go_on (near_at r) (λ zs. give true)
+
+  abbrev both : Meaning
+  both = plan_mean (plan.Sequence (plan.ContextItem ∷ near ∷ []))
+
+  head_is : (ps : List Place) → plan_mean items frame f ≡ (Ok (map Node ps), f) → plan_mean (plan.Call Head (items ∷ [])) frame f ≡ (Ok (head (map Node ps)), f)
+  head_is ps e =
+      ap (λ m. m frame f) (plan_eq.plan-Call Head (items ∷ []))
+      ∙ ap (λ o. go_on (go_on (go_on o (λ y. give (y ∷ []))) (λ n. give n)) (λ values. on_trees (λ trees. called Head trees frame.addresses frame.focus values))) e
+
+  both_is : (r : Place) → both (Forms.in_focus frame (on_node r 1 1)) f ≡ go_on (near_at r) (λ zs. give (Node r ∷ zs))
+  both_is r =
+      ap (λ m. m (Forms.in_focus frame (on_node r 1 1)) f) (plan_eq.plan-Sequence (plan.ContextItem ∷ near ∷ []))
+      ∙ ap (λ (m : Meaning). go_on (go_on (m (Forms.in_focus frame (on_node r 1 1)) f) (λ ys. give ([] ++ ys))) (λ n. in_turn (more (λ (part : Meaning). part (Forms.in_focus frame (on_node r 1 1)))) n (plan_mean near ∷ [])))
+      plan_eq.plan-ContextItem
+      ∙ by (near_at r)
+    where
+      by : (o : Outcome (List Item)) → go_on (go_on o (λ ys. give (Node r ∷ ys))) (λ n. give n) ≡ go_on o (λ zs. give (Node r ∷ zs))
+      by (Ok zs, g) = refl
+      by (Err code, g) = refl
+
+  pub first_told : (ps : List Place) → plan_mean items frame f ≡ (Ok (map Node ps), f) → Forms.tested (plan_mean (first_with items near)) frame f ≡ told_of ps
+  first_told ps e =
+      ap (λ (m : Meaning). go_on (m frame f) (λ xs. judged (effective xs))) (plan_eq.plan-Map (plan.Call Head (items ∷ [])) (plan.Sequence (plan.ContextItem ∷ near ∷ []) ∷ []))
+      ∙ ap (λ o. go_on (go_on o (λ xs. in_turn (Forms.bang frame) xs (both ∷ []))) (λ xs. judged (effective xs))) (head_is ps e)
+      ∙ of ps
+    where
+      truth_of : (r : Place) (o : Outcome (List Item)) → go_on (go_on (go_on (go_on (go_on o (λ zs. give (Node r ∷ zs))) (λ ys. give ([] ++ ys))) (λ n. give n)) (λ n. give n)) (λ xs. judged (effective xs)) ≡ go_on o (λ zs. give true)
+      truth_of r (Ok zs, g) = refl
+      truth_of r (Err code, g) = refl
+
+      of : (qs : List Place) → go_on (in_turn (Forms.bang frame) (head (map Node qs)) (both ∷ []) f) (λ xs. judged (effective xs)) ≡ told_of qs
+      of [] = refl
+      of (r ∷ qs) =
+          ap (λ o. go_on (go_on (go_on (go_on o (λ ys. give ([] ++ ys))) (λ n. give n)) (λ n. give n)) (λ xs. judged (effective xs))) (both_is r)
+          ∙ truth_of r (near_at r)
 
 -- # Slots
 
@@ -107,7 +163,7 @@ still_there known part outside slots fits more focus addresses f = outside.0 slo
 
 -- # The part before all items
 
-module _ (known : List Held) (p part q : Plan) (lifts : IsLifted known p part q) (held also : Held) (is : IsHeld known also part) where
+module _ (known : List Held) (near p part q : Plan) (lifts : IsLifted known near p part q) (held also : Held) (is : IsHeld known also part) where
   abbrev then_known : List Held
   then_known = (known ++ held ∷ []) ++ also ∷ []
 
@@ -115,10 +171,20 @@ module _ (known : List Held) (p part q : Plan) (lifts : IsLifted known p part q)
   fits_both slots xs value fits h k = fits_more (known ++ held ∷ []) (also ∷ []) (opened slots xs) (value ∷ []) (fits_more known (held ∷ []) slots (xs ∷ []) fits (h, tt)) (k, tt)
 
   -- a whole with the predicate, over these items, and one with the other predicate
-  module _ (test whole found : Plan) (same : GivesSame then_known whole found)
+  module _ (first whole found : Plan) (same : GivesSame then_known whole found)
       (slots : Slots) (focus : Option Focus) (addresses : List Text) (xs : List Item) (f : List Tree) (fits : Fits known slots) (holds : Holds held xs) (o : Outcome (List Item)) where
     abbrev before : Frame
     before = frame_of (opened slots xs) focus addresses
+
+    abbrev test : Plan
+    test = first_with first near
+
+    -- the near part at a node
+    abbrev near_of : Place → Outcome (List Item)
+    near_of r = plan_mean near (frame_of slots (Some (on_node r 1 1)) addresses) f
+
+    near_same : (r : Place) → near_at first near before f r ≡ near_of r
+    near_same r = still_there known near lifts.near_outside slots fits (xs ∷ []) (Some (on_node r 1 1)) addresses f
 
     -- where the part is not asked for
     none_asked : Forms.tested (plan_mean test) before f ≡ (Ok false, f) → plan_mean whole (frame_of (with_both slots xs []) focus addresses) f ≡ o →
@@ -128,6 +194,13 @@ module _ (known : List Held) (p part q : Plan) (lifts : IsLifted known p part q)
         ∙ ap (λ r. go_on r (λ value. plan_mean found (frame_of (with_both slots xs value) focus addresses))) (guarded test part before f false told)
         ∙ same (with_both slots xs []) focus addresses f (fits_both slots xs [] fits holds (nothing_held also))
         ∙ gives
+
+    -- where the near part is refused
+    near_asked : (code : Code) → Forms.tested (plan_mean test) before f ≡ (Err code, f) → o ≡ (Err code, f) → plan_mean (let_in (only_if test part) found) before f ≡ o
+    near_asked code told stops =
+        lone_let (only_if test part) found (opened slots xs) focus addresses f
+        ∙ ap (λ r. go_on r (λ value. plan_mean found (frame_of (with_both slots xs value) focus addresses))) (guard_refused test part before f code told)
+        ∙ sym stops
 
     some_asked : Forms.tested (plan_mean test) before f ≡ (Ok true, f) →
         ((code : Code) → GivesThere slots addresses f part (Err code) → o ≡ (Err code, f)) →
@@ -153,13 +226,22 @@ module _ (known : List Held) (p part q : Plan) (lifts : IsLifted known p part q)
             ap (λ r. go_on r (λ v. plan_mean found (frame_of (with_both slots xs v) focus addresses))) e
             ∙ sym (refuses code (there (Err code) e))
 
-    pub asked : (truth : Bool) → Forms.tested (plan_mean test) before f ≡ (Ok truth, f) →
-        (truth ≡ false → plan_mean whole (frame_of (with_both slots xs []) focus addresses) f ≡ o) →
-        (truth ≡ true → (code : Code) → GivesThere slots addresses f part (Err code) → o ≡ (Err code, f)) →
+    -- by the nodes of which the first is asked
+    pub asked : (ps : List Place) → plan_mean first before f ≡ (Ok (map Node ps), f) →
+        (ps ≡ [] → plan_mean whole (frame_of (with_both slots xs []) focus addresses) f ≡ o) →
+        ((r : Place) (qs : List Place) → ps ≡ r ∷ qs → (code : Code) → near_of r ≡ (Err code, f) → o ≡ (Err code, f)) →
+        ((r : Place) (qs : List Place) → ps ≡ r ∷ qs → (zs : List Item) → near_of r ≡ (Ok zs, f) → (code : Code) → GivesThere slots addresses f part (Err code) → o ≡ (Err code, f)) →
         ((value : List Item) → GivesThere slots addresses f part (Ok value) → plan_mean whole (frame_of (with_both slots xs value) focus addresses) f ≡ o) →
         plan_mean (let_in (only_if test part) found) before f ≡ o
-    asked true told none refuses gives = some_asked told (refuses refl) gives
-    asked false told none refuses gives = none_asked told (none refl)
+    asked [] e none stops refuses gives = none_asked (first_told first near before f [] e) (none refl)
+    asked (r ∷ qs) e none stops refuses gives = by (lifts.near_outside.1 (frame_of slots (Some (on_node r 1 1)) addresses) f)
+      where
+        told : (given : Judged (List Item)) → near_of r ≡ (given, f) → Forms.tested (plan_mean test) before f ≡ go_on (given, f) (λ zs. give true)
+        told given at = first_told first near before f (r ∷ qs) e ∙ ap (λ w. go_on w (λ zs. give true)) (near_same r ∙ at)
+
+        by : ((given : Judged (List Item)) × (near_of r ≡ (given, f))) → plan_mean (let_in (only_if test part) found) before f ≡ o
+        by (Ok zs, at) = some_asked (told (Ok zs) at) (refuses r qs refl zs at) gives
+        by (Err code, at) = near_asked code (told (Err code) at) (stops r qs refl code at)
 
   -- # Predicates that follow
 
@@ -202,18 +284,14 @@ abbrev pub are_some : List Place → Bool
 are_some [] = false
 are_some (p ∷ ps) = true
 
-pub effective_nodes : (ps : List Place) → effective (map Node ps) ≡ Ok (are_some ps)
-effective_nodes [] = refl
-effective_nodes (p ∷ ps) = refl
-
-pub filter_lifts : (known : List Held) (start p part q found result : Plan) (rest : List Plan) (held also : Held) → IsLifted known p part q → AllByRecursion (IsOutside (length known)) rest →
+pub filter_lifts : (known : List Held) (start near p part q found result : Plan) (rest : List Plan) (held also : Held) → IsLifted known near p part q → AllByRecursion (IsOutside (length known)) rest →
     IsHeld known has.Nodes start → IsHeld known held start → IsHeld known also part →
     GivesSame ((known ++ held ∷ []) ++ also ∷ []) (plan.Filter (plan.Slot (length known)) (q ∷ rest)) found →
-    result ≡ let_in start (let_in (only_if (plan.Slot (length known)) part) found) →
+    result ≡ let_in start (let_in (only_if (first_with (plan.Slot (length known)) near) part) found) →
     GivesSame known (plan.Filter start (p ∷ rest)) result
-filter_lifts known start p part q found result rest held also lifts all nodes kept is same at slots focus addresses trees fits =
+filter_lifts known start near p part q found result rest held also lifts all nodes kept is same at slots focus addresses trees fits =
     ap (λ r. plan_mean r frame trees) at
-    ∙ lone_let start (let_in (only_if test part) found) slots focus addresses trees
+    ∙ lone_let start (let_in (only_if (first_with test near) part) found) slots focus addresses trees
     ∙ by (plan_mean start frame trees) (nodes slots focus addresses trees fits) (kept slots focus addresses trees fits)
     ∙ sym (ap (λ m. m frame trees) (plan_eq.plan-Filter start (p ∷ rest)))
   where
@@ -228,14 +306,13 @@ filter_lifts known start p part q found result rest held also lifts all nodes ke
 
     -- over these nodes
     over : (ps : List Place) (f : List Tree) → Holds held (map Node ps) →
-        plan_mean (let_in (only_if test part) found) (frame_of (opened slots (map Node ps)) focus addresses) f
+        plan_mean (let_in (only_if (first_with test near) part) found) (frame_of (opened slots (map Node ps)) focus addresses) f
         ≡ in_turn (Forms.filtered frame) (map Node ps) (map plan_mean (p ∷ rest)) f
     over ps f holds =
-        asked known p part q lifts held also is test whole found same slots focus addresses (map Node ps) f fits holds
-        (in_turn (Forms.filtered frame) (map Node ps) (map plan_mean (p ∷ rest)) f) (are_some ps)
-        (ap (λ o. go_on o (λ xs. judged (effective xs))) (slot_gives (length known) (frame_of (opened slots (map Node ps)) focus addresses) f (map Node ps) (items_next known slots (map Node ps) fits))
-        ∙ ap (λ r. (r, f)) (effective_nodes ps))
-        (none ps) (refuses ps) (gives ps)
+        asked known near p part q lifts held also is test whole found same slots focus addresses (map Node ps) f fits holds
+        (in_turn (Forms.filtered frame) (map Node ps) (map plan_mean (p ∷ rest)) f) ps
+        (slot_gives (length known) (frame_of (opened slots (map Node ps)) focus addresses) f (map Node ps) (items_next known slots (map Node ps) fits))
+        (none ps) (λ r qs cut code at. stops r qs ps cut code at) (λ r qs cut zs at code there. refuses r qs ps cut zs at code there) (gives ps)
       where
         reads : (qs : List Place) (value : List Item) →
             plan_mean whole (frame_of (with_both slots (map Node qs) value) focus addresses) f
@@ -245,16 +322,26 @@ filter_lifts known start p part q found result rest held also lifts all nodes ke
             ap (λ m. m here f) (plan_eq.plan-Filter test (q ∷ rest))
             ∙ ap (λ o. go_on o (λ xs. in_turn (Forms.filtered here) xs (map plan_mean (q ∷ rest)))) (slot_gives (length known) here f (map Node qs) (items_there known slots (map Node qs) value fits))
 
-        none : (qs : List Place) → are_some qs ≡ false → plan_mean whole (frame_of (with_both slots (map Node qs) []) focus addresses) f
+        none : (qs : List Place) → qs ≡ [] → plan_mean whole (frame_of (with_both slots (map Node qs) []) focus addresses) f
             ≡ in_turn (Forms.filtered frame) (map Node qs) (map plan_mean (p ∷ rest)) f
-        none [] e = reads [] [] ∙ none_filtered (frame_of (with_both slots [] []) focus addresses) (map plan_mean (q ∷ rest)) f ∙ sym (none_filtered frame (map plan_mean (p ∷ rest)) f)
-        none (r ∷ qs) e = absurd (false≢true (sym e))
+        none qs e = subst (λ (l : List Place). plan_mean whole (frame_of (with_both slots (map Node l) []) focus addresses) f ≡ in_turn (Forms.filtered frame) (map Node l) (map plan_mean (p ∷ rest)) f) (sym e)
+            (reads [] [] ∙ none_filtered (frame_of (with_both slots [] []) focus addresses) (map plan_mean (q ∷ rest)) f ∙ sym (none_filtered frame (map plan_mean (p ∷ rest)) f))
 
-        refuses : (qs : List Place) → are_some qs ≡ true → (code : Code) → GivesThere slots addresses f part (Err code) →
-            in_turn (Forms.filtered frame) (map Node qs) (map plan_mean (p ∷ rest)) f ≡ (Err code, f)
-        refuses [] e code there = absurd (false≢true e)
-        refuses (r ∷ qs) e code there =
-            first_refused slots focus addresses (plan_mean p) (map plan_mean rest) r (map Node qs) f code (λ position last. lifts.refused slots addresses f code fits there r position last)
+        first_stops : (r : Place) (qs ls : List Place) → ls ≡ r ∷ qs → (code : Code) → ((position last : ℕ) → plan_mean p (frame_of slots (Some (on_node r position last)) addresses) f ≡ (Err code, f)) →
+            in_turn (Forms.filtered frame) (map Node ls) (map plan_mean (p ∷ rest)) f ≡ (Err code, f)
+        first_stops r qs ls cut code h =
+            ap (λ (l : List Place). in_turn (Forms.filtered frame) (map Node l) (map plan_mean (p ∷ rest)) f) cut
+            ∙ first_refused slots focus addresses (plan_mean p) (map plan_mean rest) r (map Node qs) f code h
+
+        stops : (r : Place) (qs ls : List Place) → ls ≡ r ∷ qs → (code : Code) → plan_mean near (frame_of slots (Some (on_node r 1 1)) addresses) f ≡ (Err code, f) →
+            in_turn (Forms.filtered frame) (map Node ls) (map plan_mean (p ∷ rest)) f ≡ (Err code, f)
+        stops r qs ls cut code at =
+            first_stops r qs ls cut code (λ position last. lifts.stops slots addresses f code fits r position last (lifts.near_free slots addresses f r position last 1 1 ∙ at))
+
+        refuses : (r : Place) (qs ls : List Place) → ls ≡ r ∷ qs → (zs : List Item) → plan_mean near (frame_of slots (Some (on_node r 1 1)) addresses) f ≡ (Ok zs, f) →
+            (code : Code) → GivesThere slots addresses f part (Err code) → in_turn (Forms.filtered frame) (map Node ls) (map plan_mean (p ∷ rest)) f ≡ (Err code, f)
+        refuses r qs ls cut zs at code there =
+            first_stops r qs ls cut code (λ position last. lifts.refused slots addresses f code fits there r position last zs (lifts.near_free slots addresses f r position last 1 1 ∙ at))
 
         gives : (qs : List Place) (value : List Item) → GivesThere slots addresses f part (Ok value) →
             plan_mean whole (frame_of (with_both slots (map Node qs) value) focus addresses) f
@@ -262,28 +349,28 @@ filter_lifts known start p part q found result rest held also lifts all nodes ke
         gives qs value there =
             reads qs value
             ∙ predicates_here slots (with_both slots (map Node qs) value) addresses f focus (map plan_mean (q ∷ rest)) (map plan_mean (p ∷ rest))
-            (all_alike known p part q lifts held also is rest all slots addresses f fits (map Node qs) value there) (map Node qs)
+            (all_alike known near p part q lifts held also is rest all slots addresses f fits (map Node qs) value there) (map Node qs)
 
     by : (o : Outcome (List Item)) → GivesHeld has.Nodes o → GivesHeld held o →
-        go_on o (λ xs. plan_mean (let_in (only_if test part) found) (frame_of (opened slots xs) focus addresses))
+        go_on o (λ xs. plan_mean (let_in (only_if (first_with test near) part) found) (frame_of (opened slots xs) focus addresses))
         ≡ go_on o (λ xs. in_turn (Forms.filtered frame) xs (map plan_mean (p ∷ rest)))
     by (Ok xs, f) (ps, e) holds =
-        ap (λ ys. plan_mean (let_in (only_if test part) found) (frame_of (opened slots ys) focus addresses) f) e
+        ap (λ ys. plan_mean (let_in (only_if (first_with test near) part) found) (frame_of (opened slots ys) focus addresses) f) e
         ∙ over ps f (subst (Holds held) e holds)
         ∙ ap (λ ys. in_turn (Forms.filtered frame) ys (map plan_mean (p ∷ rest)) f) (sym e)
     by (Err code, f) n h = refl
 
 -- by the names that a function has for slots and predicates
-pub filter_lifts_at : (known all : List Held) (n : ℕ) (ps : List Plan) (start p part q found result : Plan) (rest : List Plan) (held also : Held) → n ≡ length known →
-    all ≡ (known ++ held ∷ []) ++ also ∷ [] → ps ≡ q ∷ rest → IsLifted known p part q → AllByRecursion (IsOutside (length known)) rest →
+pub filter_lifts_at : (known all : List Held) (n : ℕ) (ps : List Plan) (start near p part q found result : Plan) (rest : List Plan) (held also : Held) → n ≡ length known →
+    all ≡ (known ++ held ∷ []) ++ also ∷ [] → ps ≡ q ∷ rest → IsLifted known near p part q → AllByRecursion (IsOutside (length known)) rest →
     IsHeld known has.Nodes start → IsHeld known held start → IsHeld known also part → GivesSame all (plan.Filter (plan.Slot n) ps) found →
-    result ≡ let_in start (let_in (only_if (plan.Slot n) part) found) → GivesSame known (plan.Filter start (p ∷ rest)) result
-filter_lifts_at known all n ps start p part q found result rest held also here whole at lifts outside nodes kept is same made =
-    filter_lifts known start p part q found result rest held also lifts outside nodes kept is
+    result ≡ let_in start (let_in (only_if (first_with (plan.Slot n) near) part) found) → GivesSame known (plan.Filter start (p ∷ rest)) result
+filter_lifts_at known all n ps start near p part q found result rest held also here whole at lifts outside nodes kept is same made =
+    filter_lifts known start near p part q found result rest held also lifts outside nodes kept is
     (subst (λ l. GivesSame ((known ++ held ∷ []) ++ also ∷ []) (plan.Filter (plan.Slot (length known)) l) found) at
     (subst (λ m. GivesSame ((known ++ held ∷ []) ++ also ∷ []) (plan.Filter (plan.Slot m) ps) found) here
     (subst (λ k. GivesSame k (plan.Filter (plan.Slot n) ps) found) whole same)))
-    (made ∙ ap (λ m. let_in start (let_in (only_if (plan.Slot m) part) found)) here)
+    (made ∙ ap (λ m. let_in start (let_in (only_if (first_with (plan.Slot m) near) part) found)) here)
 
 -- # Comparisons
 
@@ -315,13 +402,68 @@ pair_leaves known a b op left right frame f =
 abbrev operands : Operator → List Item → Outcome (List Item) → Outcome (List Item)
 operands op zs o = go_on (go_on o (λ ys. on_trees (λ trees. operated op trees zs ys))) (λ n. give n)
 
-pub right_lifts : (known : List Held) (p a b q : Plan) (op : Operator) → p ≡ pair_of a op b → q ≡ pair_of a op (plan.Slot (length known + 1)) → SurelyFinds a →
-    IsOutside (length known) a → IsOutside (length known) b → IgnoresFocus b → IsLifted known p b q
-right_lifts known p a b q op is at finds left right free =
-    subst (λ r. IsLifted known r b q) (sym is) (subst (IsLifted known (pair_of a op b) b) (sym at) (record {
+-- a value is no code
+abbrev IsGiven : Outcome (List Item) → Type 0
+IsGiven (Ok xs, f) = Unit {0}
+IsGiven (Err code, f) = ⊥
+
+never : {A : Type 0} (o : Outcome (List Item)) (xs : List Item) (code : Code) (f : List Tree) → o ≡ (Ok xs, f) → o ≡ (Err code, f) → A
+never o xs code f given refused = absurd (subst IsGiven (sym given ∙ refused) tt)
+
+pub nothing_given : (frame : Frame) (f : List Tree) → plan_mean (plan.Sequence []) frame f ≡ (Ok [], f)
+nothing_given frame f = ap (λ m. m frame f) (plan_eq.plan-Sequence [])
+
+nothing_outside : (n : ℕ) → IsOutside n (plan.Sequence [])
+nothing_outside n = sequence_outside n [] (plan.Sequence []) refl tt
+
+nothing_free : IgnoresPosition (plan.Sequence [])
+nothing_free = of_position (plan.Sequence []) (sequence_free true [] (plan.Sequence []) refl tt)
+
+near_leads : (n : ℕ) (a near : Plan) → IsNear a near → IsOutside n a → IsOutside n near × IgnoresPosition near
+near_leads n a near (inl (finds, is)) outside = subst (λ r. IsOutside n r × IgnoresPosition r) (sym is) (nothing_outside n, nothing_free)
+near_leads n a near (inr (free, is)) outside = subst (λ r. IsOutside n r × IgnoresPosition r) (sym is) (outside, free)
+
+module _ (known : List Held) (a b near : Plan) (op : Operator) (left : IsOutside (length known) a) (right : IsOutside (length known) b) where
+  pair_at : (frame : Frame) (f : List Tree) → plan_mean (pair_of a op b) frame f ≡ go_on (plan_mean a frame f) (λ zs. in_turn (Forms.next_operand frame) zs ((op, plan_mean b) ∷ []))
+  pair_at frame f = ap (λ m. m frame f) (plan_eq.plan-Chain a ((op, b) ∷ []))
+
+  pair_stops : IsNear a near → (slots : Slots) (addresses : List Text) (f : List Tree) (code : Code) (place : Place) (position last : ℕ) →
+      plan_mean near (frame_of slots (Some (on_node place position last)) addresses) f ≡ (Err code, f) →
+      plan_mean (pair_of a op b) (frame_of slots (Some (on_node place position last)) addresses) f ≡ (Err code, f)
+  pair_stops (inl (finds, is)) slots addresses f code place position last at =
+      let here = frame_of slots (Some (on_node place position last)) addresses in
+      never (plan_mean near here f) [] code f (ap (λ r. plan_mean r here f) is ∙ nothing_given here f) at
+  pair_stops (inr (free, is)) slots addresses f code place position last at =
+      let here = frame_of slots (Some (on_node place position last)) addresses in
+      pair_at here f ∙ ap (λ o. go_on o (λ zs. in_turn (Forms.next_operand here) zs ((op, plan_mean b) ∷ []))) (ap (λ r. plan_mean r here f) (sym is) ∙ at)
+
+  pair_refused : IsNear a near → (slots : Slots) (addresses : List Text) (f : List Tree) (code : Code) → GivesThere slots addresses f b (Err code) →
+      (place : Place) (position last : ℕ) (zs : List Item) →
+      plan_mean near (frame_of slots (Some (on_node place position last)) addresses) f ≡ (Ok zs, f) →
+      plan_mean (pair_of a op b) (frame_of slots (Some (on_node place position last)) addresses) f ≡ (Err code, f)
+  pair_refused near_is slots addresses f code there place position last zs at = pair_at here f ∙ by near_is
+    where
+      here : Frame
+      here = frame_of slots (Some (on_node place position last)) addresses
+
+      of : (ys : List Item) → plan_mean a here f ≡ (Ok ys, f) → go_on (plan_mean a here f) (λ zs. in_turn (Forms.next_operand here) zs ((op, plan_mean b) ∷ [])) ≡ (Err code, f)
+      of ys e =
+          ap (λ o. go_on o (λ zs. in_turn (Forms.next_operand here) zs ((op, plan_mean b) ∷ []))) e
+          ∙ ap (operands op ys) (there (Some (on_node place position last)))
+
+      by : IsNear a near → go_on (plan_mean a here f) (λ zs. in_turn (Forms.next_operand here) zs ((op, plan_mean b) ∷ [])) ≡ (Err code, f)
+      by (inl (finds, is)) = let found = finds slots addresses f place in of (map Node found.0) (found.1 position last)
+      by (inr (free, is)) = of zs (ap (λ r. plan_mean r here f) (sym is) ∙ at)
+
+pub right_lifts : (known : List Held) (near p a b q : Plan) (op : Operator) → p ≡ pair_of a op b → q ≡ pair_of a op (plan.Slot (length known + 1)) → IsNear a near →
+    IsOutside (length known) a → IsOutside (length known) b → IgnoresFocus b → IsLifted known near p b q
+right_lifts known near p a b q op is at near_is left right free =
+    subst (λ r. IsLifted known near r b q) (sym is) (subst (IsLifted known near (pair_of a op b) b) (sym at) (record {
       outside = right;
       free = free;
       leaves = pair_leaves known a b op left right;
+      near_outside = (near_leads (length known) a near near_is left).0;
+      near_free = (near_leads (length known) a near near_is left).1;
       alike = λ slots addresses f xs value fits there focus.
           let here = frame_of slots focus addresses in
           let after = frame_of (with_both slots xs value) focus addresses in
@@ -330,21 +472,19 @@ right_lifts known p a b q op is at finds left right free =
           ∙ then_here f (plan_mean a here f) (λ zs. in_turn (Forms.next_operand after) zs ((op, plan_mean (plan.Slot (length known + 1))) ∷ [])) (λ zs. in_turn (Forms.next_operand here) zs ((op, plan_mean b) ∷ []))
           (left.1 here f) (λ zs. ap (operands op zs) (slot_gives (length known + 1) after f value (value_there known slots xs value fits) ∙ sym (there focus)))
           ∙ sym (ap (λ m. m here f) (plan_eq.plan-Chain a ((op, b) ∷ [])));
-      refused = λ slots addresses f code fits there place position last.
-          let here = frame_of slots (Some (on_node place position last)) addresses in
-          let found = finds slots addresses f place in
-          ap (λ m. m here f) (plan_eq.plan-Chain a ((op, b) ∷ []))
-          ∙ ap (λ o. go_on o (λ zs. in_turn (Forms.next_operand here) zs ((op, plan_mean b) ∷ []))) (found.1 position last)
-          ∙ ap (operands op (map Node found.0)) (there (Some (on_node place position last)));
+      stops = λ slots addresses f code fits place position last e. pair_stops known a b near op left right near_is slots addresses f code place position last e;
+      refused = λ slots addresses f code fits there place position last zs e. pair_refused known a b near op left right near_is slots addresses f code there place position last zs e;
     }))
 
-pub left_lifts : (known : List Held) (p a b q : Plan) (op : Operator) → p ≡ pair_of a op b → q ≡ pair_of (plan.Slot (length known + 1)) op b →
-    IsOutside (length known) a → IsOutside (length known) b → IgnoresFocus a → IsLifted known p a q
-left_lifts known p a b q op is at left right free =
-    subst (λ r. IsLifted known r a q) (sym is) (subst (IsLifted known (pair_of a op b) a) (sym at) (record {
+pub left_lifts : (known : List Held) (near p a b q : Plan) (op : Operator) → near ≡ plan.Sequence [] → p ≡ pair_of a op b → q ≡ pair_of (plan.Slot (length known + 1)) op b →
+    IsOutside (length known) a → IsOutside (length known) b → IgnoresFocus a → IsLifted known near p a q
+left_lifts known near p a b q op nothing is at left right free =
+    subst (λ r. IsLifted known r p a q) (sym nothing) (subst (λ r. IsLifted known (plan.Sequence []) r a q) (sym is) (subst (IsLifted known (plan.Sequence []) (pair_of a op b) a) (sym at) (record {
       outside = left;
       free = free;
       leaves = pair_leaves known a b op left right;
+      near_outside = nothing_outside (length known);
+      near_free = nothing_free;
       alike = λ slots addresses f xs value fits there focus.
           let here = frame_of slots focus addresses in
           let after = frame_of (with_both slots xs value) focus addresses in
@@ -353,37 +493,48 @@ left_lifts known p a b q op is at left right free =
           ∙ ap (operands op value) (same_there known b right slots xs value fits focus addresses f)
           ∙ sym (ap (λ m. m here f) (plan_eq.plan-Chain a ((op, b) ∷ []))
           ∙ ap (λ o. go_on o (λ zs. in_turn (Forms.next_operand here) zs ((op, plan_mean b) ∷ []))) (there focus));
-      refused = λ slots addresses f code fits there place position last.
+      stops = λ slots addresses f code fits place position last e.
+          let here = frame_of slots (Some (on_node place position last)) addresses in
+          never (plan_mean (plan.Sequence []) here f) [] code f (nothing_given here f) e;
+      refused = λ slots addresses f code fits there place position last zs e.
           let here = frame_of slots (Some (on_node place position last)) addresses in
           ap (λ m. m here f) (plan_eq.plan-Chain a ((op, b) ∷ []))
           ∙ ap (λ o. go_on o (λ zs. in_turn (Forms.next_operand here) zs ((op, plan_mean b) ∷ []))) (there (Some (on_node place position last)));
-    }))
+    })))
 
 -- # The first of some predicates
 
 -- a list whose last item was taken off after it was turned round
-first_of : (ps left rest : List Plan) (p : Plan) → left ≡ reverse ps → left ≡ rest ++ p ∷ [] → ps ≡ p ∷ reverse rest
+pub first_of : {A : Type 0} (ps left rest : List A) (p : A) → left ≡ reverse ps → left ≡ rest ++ p ∷ [] → ps ≡ p ∷ reverse rest
 first_of ps left rest p turned taken = sym (reverse-reverse ps) ∙ ap reverse (sym turned ∙ taken) ∙ reverse-append rest (p ∷ [])
 
-pub part_of_first : (known : List Held) (ps left rest : List Plan) (p part q : Plan) (taken : Option Plan) (found : List Plan) → left ≡ reverse ps → left ≡ rest ++ p ∷ [] →
-    AllByRecursion (IsOutside (length known)) ps → IsLifted known p part q → taken ≡ Some part → found ≡ q ∷ reverse rest → LiftsFirst known ps taken found
-part_of_first known ps left rest p part q taken found turned cut all lifts is at =
+pub part_of_first : (known : List Held) (early : Bool) (ps left rest : List Plan) (near p part q : Plan) (taken : Option (Plan × Plan)) (found : List Plan) → left ≡ reverse ps → left ≡ rest ++ p ∷ [] →
+    AllByRecursion (IsOutside (length known)) ps → LiftsTo known early p (lifted.Part near part q) → taken ≡ Some (near, part) → found ≡ q ∷ reverse rest → LiftsFirst known early ps taken found
+part_of_first known early ps left rest near p part q taken found turned cut all lifts is at =
     let whole = first_of ps left rest p turned cut in
-    subst (λ o. LiftsFirst known ps o found) (sym is) (p, q, reverse rest, whole, at, lifts, (subst (AllByRecursion (IsOutside (length known))) whole all).1)
+    subst (λ o. LiftsFirst known early ps o found) (sym is) (p, q, reverse rest, whole, at, lifts.0, lifts.1, (subst (AllByRecursion (IsOutside (length known))) whole all).1)
 
-pub none_of_first : (known : List Held) (ps left rest : List Plan) (p q : Plan) (taken : Option Plan) (found : List Plan) → left ≡ reverse ps → left ≡ rest ++ p ∷ [] →
-    q ≡ p → taken ≡ None → found ≡ q ∷ reverse rest → LiftsFirst known ps taken found
-none_of_first known ps left rest p q taken found turned cut same is at =
-    subst (λ o. LiftsFirst known ps o found) (sym is) (at ∙ ap (λ r. r ∷ reverse rest) same ∙ sym (first_of ps left rest p turned cut))
+pub none_of_first : (known : List Held) (early : Bool) (ps left rest : List Plan) (p q : Plan) (taken : Option (Plan × Plan)) (found : List Plan) → left ≡ reverse ps → left ≡ rest ++ p ∷ [] →
+    q ≡ p → taken ≡ None → found ≡ q ∷ reverse rest → LiftsFirst known early ps taken found
+none_of_first known early ps left rest p q taken found turned cut same is at =
+    subst (λ o. LiftsFirst known early ps o found) (sym is) (at ∙ ap (λ r. r ∷ reverse rest) same ∙ sym (first_of ps left rest p turned cut))
 
-pub none_left : (known : List Held) (ps left : List Plan) (taken : Option Plan) (found : List Plan) → left ≡ reverse ps → left ≡ [] → taken ≡ None → found ≡ [] → LiftsFirst known ps taken found
-none_left known ps left taken found turned none is at =
-    subst (λ o. LiftsFirst known ps o found) (sym is) (at ∙ ap reverse (sym none ∙ turned) ∙ reverse-reverse ps)
+pub none_left : (known : List Held) (early : Bool) (ps left : List Plan) (taken : Option (Plan × Plan)) (found : List Plan) → left ≡ reverse ps → left ≡ [] → taken ≡ None → found ≡ [] → LiftsFirst known early ps taken found
+none_left known early ps left taken found turned none is at =
+    subst (λ o. LiftsFirst known early ps o found) (sym is) (at ∙ ap reverse (sym none ∙ turned) ∙ reverse-reverse ps)
 
 -- what holds of the first predicate and the others holds of all
-pub of_lifted : (known : List Held) (ps qs : List Plan) (part : Plan) (taken : Option Plan) (goal : List Plan → Type 0) → taken ≡ Some part → LiftsFirst known ps taken qs →
-    ((p q : Plan) (more : List Plan) → qs ≡ q ∷ more → IsLifted known p part q → AllByRecursion (IsOutside (length known)) more → goal (p ∷ more)) → goal ps
-of_lifted known ps qs part taken goal is lifts holds = by (subst (λ o. LiftsFirst known ps o qs) is lifts)
+pub of_lifted : (known : List Held) (early : Bool) (ps qs : List Plan) (near part : Plan) (taken : Option (Plan × Plan)) (goal : List Plan → Type 0) → taken ≡ Some (near, part) → LiftsFirst known early ps taken qs →
+    ((p q : Plan) (more : List Plan) → qs ≡ q ∷ more → IsLifted known near p part q → IsNearBy early near → AllByRecursion (IsOutside (length known)) more → goal (p ∷ more)) → goal ps
+of_lifted known early ps qs near part taken goal is lifts holds = by (subst (λ o. LiftsFirst known early ps o qs) is lifts)
   where
-    by : LiftsFirst known ps (Some part) qs → goal ps
-    by (p, q, more, whole, at, one, all) = subst goal (sym whole) (holds p q more at one all)
+    by : LiftsFirst known early ps (Some (near, part)) qs → goal ps
+    by (p, q, more, whole, at, one, near_by, all) = subst goal (sym whole) (holds p q more at one near_by all)
+
+pub nothing_by : (early : Bool) → IsNearBy early (plan.Sequence [])
+nothing_by true = tt
+nothing_by false = refl
+
+pub first_tested_by : (axis : Axis) (near : Plan) (early : Bool) → (early ≡ true → is_reverse axis ≡ false) → IsNearBy early near → IsFirstTested axis near
+first_tested_by axis near true forward by = inl (forward refl)
+first_tested_by axis near false forward by = inr by

@@ -1,9 +1,8 @@
 -- A `where` after a `for` that compares a key of the node is a predicate of what it ranges over.
-use Rattle.std.proofs.Common.{◌≡◌, ℕ, ◌+◌, List, [], ◌∷◌, ◌++◌, map, length, reverse, arith, Bool, true, false, Ok, Err, refl, sym, ap, ◌∙◌, subst, ◌⊎◌, inl, inr, if◌then◌else◌}
+use Rattle.std.proofs.Common.{◌≡◌, ℕ, List, [], ◌∷◌, ◌++◌, map, length, reverse, arith, Bool, true, false, Ok, Err, refl, sym, ap, ◌∙◌, subst, ◌⊎◌, inl, inr, if◌then◌else◌}
 use Rattle.std.specs.Prelude.{Option, Some, filter, ◌&&◌}
-use Rattle.std.specs.List.{AllByRecursion, enumerate_from, zip}
+use Rattle.std.specs.List.{AllByRecursion}
 use Rattle.std.proofs.lemmas.List.{append_assoc, append-nil, length-append, reverse-append}
-use Rattle.std.proofs.lemmas.List.Concat.{flat_map-cons}
 use Rattle.xq_atoms.specs.Judged.{Judged}
 use Rattle.xq_atoms.specs.Text.{Text}
 use Rattle.xq_atoms.specs.declared.refusals.Code.{Code}
@@ -12,7 +11,7 @@ use Rattle.xq_expressions.specs.declared.operators.ComparisonOperator.TheVariant
 use Rattle.xq_expressions.specs.declared.operators.Relation.{Relation}
 use Rattle.xq_trees.specs.declared.Axis.{Axis}
 use Rattle.xq_trees.specs.Tree.{Tree}
-use Rattle.xq_trees.specs.Tuples.{Tuple, expanded, item_values, with_items}
+use Rattle.xq_trees.specs.Tuples.{Tuple, expanded}
 use Rattle.xq_meaning.specs.declared.joins.JoinKey.{JoinKey}
 use Rattle.xq_meaning.specs.declared.joins.KeyForm.TheVariants as key_form
 use Rattle.xq_meaning.specs.declared.node_tests.Test.{Test}
@@ -46,6 +45,7 @@ use Rattle.xq_optimise.proofs.GroupLets.{passed_is}
 use Rattle.xq_optimise.proofs.JoinLaws.{plain_key, scans_are}
 use Rattle.xq_optimise.proofs.NodesAtOnce.{all_kept}
 use Rattle.xq_optimise.proofs.Rising.{same_rest}
+use Rattle.xq_optimise.proofs.Rows.{expanded_next, row}
 use Rattle.xq_optimise.proofs.Scans.{scans_from}
 use Rattle.xq_optimise.proofs.Tests.{nodes_have_texts, pairs_compare}
 
@@ -59,7 +59,7 @@ text_side known side part t is at slots focus addresses trees fits place = (
   λ position last. ap (λ m. m (frame_of slots (Some (on_node place position last)) addresses) trees) (ap plan_mean at ∙ plan_eq.plan-Str t),
 )
 
-all_scans : (scans : List (Axis × Test)) → AllByRecursion IsScan (map scan_step scans)
+pub all_scans : (scans : List (Axis × Test)) → AllByRecursion IsScan (map scan_step scans)
 all_scans [] = tt
 all_scans (s ∷ ss) = ((s.0, s.1, refl), all_scans ss)
 
@@ -117,21 +117,6 @@ sides_tell known relation test p a b c d is at left right =
               ap (λ o. go_on o (λ xs. judged (effective xs)))
               (compared relation a b (frame_of (opened slots (Node place ∷ [])) focus addresses) f first.0 second.0 (tells place).0 first.2 second.2 (tells place).1),
         )
-
--- # Tuples with an item more
-
-abbrev row : Tuple Item → Item → Tuple Item
-row t x = t ++ (x ∷ []) ∷ []
-
-rows_from : (t : Tuple Item) (n : ℕ) (xs : List Item) → map (λ (p : ℕ × Item). t ++ item_values Atom false p.0 p.1) (enumerate_from n xs) ≡ map (row t) xs
-rows_from t n [] = refl
-rows_from t n (x ∷ xs) = ap (λ l. row t x ∷ l) (rows_from t (n + 1) xs)
-
-expanded_next : (t : Tuple Item) (ts : List (Tuple Item)) (xs : List Item) (lists : List (List Item)) →
-    expanded Atom false false (t ∷ ts) (xs ∷ lists) ≡ map (row t) xs ++ expanded Atom false false ts lists
-expanded_next t ts xs lists =
-    flat_map-cons (λ (p : Tuple Item × List Item). with_items Atom false false p.0 p.1) (t, xs) (zip ts lists)
-    ∙ ap (λ l. l ++ expanded Atom false false ts lists) (rows_from t 1 xs)
 
 -- # The clauses
 

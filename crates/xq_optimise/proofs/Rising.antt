@@ -8,7 +8,8 @@ use Rattle.xq_atoms.specs.declared.refusals.Code.{Code}
 use Rattle.xq_expressions.specs.declared.operators.AllowingEmpty.{AllowingEmpty}
 use Rattle.xq_expressions.specs.declared.operators.OrderModifier.{OrderModifier}
 use Rattle.xq_trees.specs.Tree.{Tree}
-use Rattle.xq_trees.specs.Tuples.{Tuple, satisfying, bound}
+use Rattle.xq_expressions.specs.declared.operators.AllowingEmpty.TheVariants as allowing
+use Rattle.xq_trees.specs.Tuples.{Tuple, satisfying, bound, expanded}
 use Rattle.xq_trees.proofs.Lists.{all_append}
 use Rattle.xq_meaning.specs.declared.plans.Plan.{Plan}
 use Rattle.xq_meaning.specs.declared.plans.Plan.TheVariants as plan
@@ -18,7 +19,7 @@ use Rattle.xq_meaning.specs.Arguments.{effective}
 use Rattle.xq_meaning.specs.Doing.{Doing, Outcome, go_on, give, judged, in_turn}
 use Rattle.xq_meaning.specs.Forms
 use Rattle.xq_meaning.specs.Functions.{Focus}
-use Rattle.xq_meaning.specs.Items.{Item, Node}
+use Rattle.xq_meaning.specs.Items.{Item, Node, Atom}
 use Rattle.xq_meaning.specs.PlanMeaning.{Slots, Frame, at_tuple, next_clause, plan_mean, plan_clause_mean}
 use Rattle.xq_meaning.specs.Same.{frame_of}
 use Rattle.xq_meaning.proofs.PlanEquations as plan_eq
@@ -29,11 +30,12 @@ use Rattle.xq_optimise.specs.Known.{Fits}
 use Rattle.xq_optimise.specs.Same.{GivesSame}
 use Rattle.xq_optimise.specs.Sure.{SurelyTells, SurelyNodes, ReadsBelow, IsTest}
 use Rattle.xq_optimise.specs.private.Parts.{AreAll, AllFit, IsHeld, GivesHeld, GivesFitting, SameClause, SameMany, SameKey, Extends, with_position, forgotten, each_of}
-use Rattle.xq_optimise.specs.private.Order.{Rises, IsPassed, SameRest, SameTurns, SameBehind, TakesBack}
+use Rattle.xq_optimise.specs.private.Order.{Rises, IsOver, IsPassed, SameRest, SameTurns, SameBehind, TakesBack}
 use Rattle.xq_optimise.proofs.Fitting.{fits_length}
 use Rattle.xq_optimise.proofs.Flwor.{itself_follows, one_follows, for_follows, let_follows, where_follows, order_follows, count_follows, group_follows, refused_follows}
 use Rattle.xq_optimise.proofs.Loops.{Leads, leads_next, extends_itself, extends_then}
 use Rattle.xq_optimise.proofs.Conjuncts.{Tells, each_told, test_at, answers, where_told}
+use Rattle.xq_optimise.proofs.Rows.{expanded_next, pairs_append, row, rows_satisfy, spread}
 
 -- # Lists
 
@@ -78,7 +80,7 @@ module _ (known : List Held) (slots : Slots) (focus : Option Focus) (addresses :
   abbrev pub value_of : Plan → Tuple Item → Doing (List Item)
   value_of p t = plan_mean p (at_tuple frame t)
 
-  values : (p : Plan) → SurelyNodes known p → (ts : List (Tuple Item)) → AllFit known slots ts →
+  pub values : (p : Plan) → SurelyNodes known p → (ts : List (Tuple Item)) → AllFit known slots ts →
       (vs : List (List Item)) × AreAll (Tells (value_of p) f) ts vs
   values p h [] w = ([], tt)
   values p h (t ∷ ts) w =
@@ -138,6 +140,50 @@ module _ (known : List Held) (slots : Slots) (focus : Option Focus) (addresses :
       ∙ ap (λ l. (Ok l, f)) (sym (bound_kept _ _ ts vs.0 qs.0 vs.1 qs.1))
       ∙ sym (ap (λ o. go_on o (λ n. in_turn (next_clause frame) n (plan_clause_mean (clause.Let p) ∷ []))) (where_told known slots focus addresses f q ts qs.0 qs.1)
       ∙ ap (λ o. go_on o (λ xs. give xs)) (let_told p (satisfying ts qs.0) (satisfying vs.0 qs.0) (kept_told _ ts vs.0 qs.0 vs.1)))
+
+  -- each of some nodes
+
+  for_told : (p : Plan) (ts : List (Tuple Item)) (vs : List (List Item)) → AreAll (Tells (value_of p) f) ts vs →
+      plan_clause_mean (clause.For allowing.No false p) frame ts f ≡ (Ok (expanded Atom false false ts vs), f)
+  for_told p ts vs h =
+      ap (λ m. m frame ts f) (plan_eq.clause-For allowing.No false p)
+      ∙ ap (λ o. go_on o (λ lists. give (expanded Atom false false ts lists))) (each_told (value_of p) f ts vs h)
+
+  row_told : (q : Plan) → ReadsBelow known q → (t : Tuple Item) → Fits known (slots ++ t) → (b : Bool) → test_at known slots focus addresses f (plan_mean q) t f ≡ (Ok b, f) →
+      (v : List Item) → AreAll (Tells (test_at known slots focus addresses f (plan_mean q)) f) (map (row t) v) (map (λ (x : Item). b) v)
+  row_told q h t w b told [] = tt
+  row_told q h t w b told (x ∷ v) = (
+    ap (λ o. go_on o (λ xs. judged (effective xs)))
+        (ap (λ env. plan_mean q (frame_of env focus addresses) f) (sym (append_assoc slots t ((x ∷ []) ∷ [])))
+        ∙ h (slots ++ t) ((x ∷ []) ∷ []) focus addresses f w)
+        ∙ told,
+    row_told q h t w b told v,
+  )
+
+  rows_told : (q : Plan) → ReadsBelow known q → (ts : List (Tuple Item)) (vs : List (List Item)) (bs : List Bool) → AllFit known slots ts →
+      (R : Tuple Item → List Item → Type 0) → AreAll R ts vs → AreAll (Tells (test_at known slots focus addresses f (plan_mean q)) f) ts bs →
+      AreAll (Tells (test_at known slots focus addresses f (plan_mean q)) f) (expanded Atom false false ts vs) (spread vs bs)
+  rows_told q h [] [] [] w R k told = tt
+  rows_told q h [] [] (b ∷ bs) w R k told = absurd told
+  rows_told q h [] (v ∷ vs) bs w R k told = absurd k
+  rows_told q h (t ∷ ts) [] bs w R k told = absurd k
+  rows_told q h (t ∷ ts) (v ∷ vs) [] w R k told = absurd told
+  rows_told q h (t ∷ ts) (v ∷ vs) (b ∷ bs) w R k told =
+      subst (λ l. AreAll (Tells (test_at known slots focus addresses f (plan_mean q)) f) l (map (λ (x : Item). b) v ++ spread vs bs)) (sym (expanded_next t ts v vs))
+      (pairs_append (Tells (test_at known slots focus addresses f (plan_mean q)) f) (map (row t) v) (map (λ (x : Item). b) v) (expanded Atom false false ts vs) (spread vs bs)
+      (row_told q h t w.0 b told.0 v) (rows_told q h ts vs bs w.1 R k.1 told.1))
+
+  pub for_swaps : (p q : Plan) → SurelyNodes known p → SurelyTells known q → ReadsBelow known q → (ts : List (Tuple Item)) → AllFit known slots ts →
+      in_turn (next_clause frame) ts (map plan_clause_mean (clause.For allowing.No false p ∷ clause.Where q ∷ [])) f
+      ≡ in_turn (next_clause frame) ts (map plan_clause_mean (clause.Where q ∷ clause.For allowing.No false p ∷ [])) f
+  for_swaps p q h k below ts w =
+      let vs = values p h ts w in
+      let qs = answers known slots focus addresses f q k ts w in
+      ap (λ o. go_on o (λ n. in_turn (next_clause frame) n (plan_clause_mean (clause.Where q) ∷ []))) (for_told p ts vs.0 vs.1)
+      ∙ ap (λ o. go_on o (λ xs. give xs)) (where_told known slots focus addresses f q (expanded Atom false false ts vs.0) (spread vs.0 qs.0) (rows_told q below ts vs.0 qs.0 w (Tells (value_of p) f) vs.1 qs.1))
+      ∙ ap (λ l. (Ok l, f)) (rows_satisfy _ _ ts vs.0 qs.0 vs.1 qs.1)
+      ∙ sym (ap (λ o. go_on o (λ n. in_turn (next_clause frame) n (plan_clause_mean (clause.For allowing.No false p) ∷ []))) (where_told known slots focus addresses f q ts qs.0 qs.1)
+      ∙ ap (λ o. go_on o (λ xs. give xs)) (for_told p (satisfying ts qs.0) (satisfying vs.0 qs.0) (kept_told _ ts vs.0 qs.0 vs.1)))
 
 -- # What is known of more slots
 
@@ -229,11 +275,21 @@ let_passes known p h = record {
   swaps = λ q k slots focus addresses ts f w. let_swaps known slots focus addresses f p q h k.tells k.below ts w;
 }
 
-passes_more : (known more : List Held) (c : PlanClause) → IsPassed known c → PassesOne (known ++ more) c
-passes_more known more c (inl (p, is, h)) =
+for_passes : (known : List Held) (p : Plan) → SurelyNodes known p → PassesOne known (clause.For allowing.No false p)
+for_passes known p h = record {
+  more = with_position (each_of Nodes) false;
+  fits = λ slots focus addresses ts f w.
+      let own = for_follows (length slots) known allowing.No false Nodes p p (λ s o a t k. refl) (surely_held known p h) in (own slots focus addresses refl ts f w).fits;
+  swaps = λ q k slots focus addresses ts f w. for_swaps known slots focus addresses f p q h k.tells k.below ts w;
+}
+
+passes_more : (known more : List Held) (c : PlanClause) → IsOver known c → PassesOne (known ++ more) c
+passes_more known more c (inl (inl (p, is, h))) =
     subst (PassesOne (known ++ more)) (sym is) (where_passes (known ++ more) p (test_more known more p h))
-passes_more known more c (inr (p, is, h, below)) =
+passes_more known more c (inl (inr (p, is, h, below))) =
     subst (PassesOne (known ++ more)) (sym is) (let_passes (known ++ more) p (nodes_more known more p h below))
+passes_more known more c (inr (p, is, h, below)) =
+    subst (PassesOne (known ++ more)) (sym is) (for_passes (known ++ more) p (nodes_more known more p h below))
 
 -- what comes of tuples that are as known
 then_turns : (known : List Held) (slots : Slots) (o : Outcome (List (Tuple Item))) (k l : List (Tuple Item) → Doing (List (Tuple Item))) →
@@ -246,7 +302,7 @@ then_fit : (known last : List Held) (slots : Slots) (o : Outcome (List (Tuple It
 then_fit known last slots (Ok ts, f) k h next = next ts f h
 then_fit known last slots (Err code, f) k h next = tt
 
-pub passed_next : (known : List Held) (passed passed' : List PlanClause) (c : PlanClause) → PassedBy known passed → IsPassed known c →
+pub passed_next : (known : List Held) (passed passed' : List PlanClause) (c : PlanClause) → PassedBy known passed → IsOver known c →
     passed' ≡ passed ++ c ∷ [] → PassedBy known passed'
 passed_next known passed passed' c h is pushed =
     subst (PassedBy known) (sym pushed)
@@ -287,26 +343,28 @@ passed_next known passed passed' c h is pushed =
 
 -- # What is left, with a test in front
 
--- the clauses that were taken off, in the order in which they come
-pub record TakenOff (known : List Held) (all left passed : List PlanClause) : Type 0 where
+-- the clauses that were taken off, in the order in which they come, and whether none is a `for`
+pub record TakenOff (known : List Held) (plain : Bool) (all left passed : List PlanClause) : Type 0 where
   pub whole : left ++ reverse passed ≡ all
-  pub each : AllByRecursion (IsPassed known) passed
+  pub each : plain ≡ true → AllByRecursion (IsPassed known) passed
   pub by : PassedBy known passed
 
-pub none_off : (known : List Held) (all left passed : List PlanClause) → left ≡ all → passed ≡ [] → TakenOff known all left passed
+pub none_off : (known : List Held) (all left passed : List PlanClause) → left ≡ all → passed ≡ [] → TakenOff known true all left passed
 none_off known all left passed same none = record {
   whole = ap (λ l. left ++ reverse l) none ∙ append-nil left ∙ same;
-  each = subst (AllByRecursion (IsPassed known)) (sym none) tt;
+  each = λ plain. subst (AllByRecursion (IsPassed known)) (sym none) tt;
   by = none_passed known passed none;
 }
 
-pub one_off : (known : List Held) (all left rest passed passed' : List PlanClause) (c : PlanClause) → TakenOff known all left passed →
-    left ≡ rest ++ c ∷ [] → IsPassed known c → passed' ≡ passed ++ c ∷ [] → TakenOff known all rest passed'
-one_off known all left rest passed passed' c h cut is pushed = record {
+pub one_off : (known : List Held) (plain plain' : Bool) (all left rest passed passed' : List PlanClause) (c : PlanClause) → TakenOff known plain all left passed →
+    left ≡ rest ++ c ∷ [] → IsOver known c → (plain' ≡ true → (plain ≡ true) × IsPassed known c) → passed' ≡ passed ++ c ∷ [] → TakenOff known plain' all rest passed'
+one_off known plain plain' all left rest passed passed' c h cut is passes pushed = record {
   whole =
       ap (λ l. rest ++ l) (ap reverse pushed ∙ reverse-append passed (c ∷ []))
       ∙ sym (append_assoc rest (c ∷ []) (reverse passed)) ∙ ap (λ l. l ++ reverse passed) (sym cut) ∙ h.whole;
-  each = subst (AllByRecursion (IsPassed known)) (sym pushed) (all_append (IsPassed known) passed (c ∷ []) h.each (is, tt));
+  each = λ e.
+      let both = passes e in
+      subst (AllByRecursion (IsPassed known)) (sym pushed) (all_append (IsPassed known) passed (c ∷ []) (h.each both.0) (both.1, tt));
   by = passed_next known passed passed' c h.by is pushed;
 }
 
@@ -315,10 +373,10 @@ same_rest start known old new is slots focus addresses l ts trees w =
     ap (λ cs. in_turn (next_clause (frame_of slots focus addresses)) ts (map plan_clause_mean (reverse cs)) trees) is
 
 -- a test that tells before them what the next clause tells behind them
-pub written_risen : (known : List Held) (all left rest passed new : List PlanClause) (c : PlanClause) (q : Plan) → TakenOff known all left passed →
+pub written_risen : (known : List Held) (plain : Bool) (all left rest passed new : List PlanClause) (c : PlanClause) (q : Plan) → TakenOff known plain all left passed →
     left ≡ rest ++ c ∷ [] → IsTest known q → SameBehind known passed c (clause.Where q) → new ≡ (rest ++ reverse passed) ++ clause.Where q ∷ [] →
     (start : ℕ) → SameRest start known all new
-written_risen known all left rest passed new c q h cut test same pushed start slots focus addresses l ts trees w =
+written_risen known plain all left rest passed new c q h cut test same pushed start slots focus addresses l ts trees w =
     let act = next_clause (frame_of slots focus addresses) in
     let d = clause.Where q in
     let others = reverse rest in
@@ -340,17 +398,17 @@ written_risen known all left rest passed new c q h cut test same pushed start sl
     ∙ ap (λ cs. in_turn act ts (map plan_clause_mean cs) trees) (sym was)
 
 -- a test that rises
-pub test_risen : (known : List Held) (all left rest passed new : List PlanClause) (c : PlanClause) → TakenOff known all left passed →
+pub test_risen : (known : List Held) (plain : Bool) (all left rest passed new : List PlanClause) (c : PlanClause) → TakenOff known plain all left passed →
     left ≡ rest ++ c ∷ [] → Rises known c → new ≡ (rest ++ reverse passed) ++ c ∷ [] →
     (start : ℕ) → SameRest start known all new
-test_risen known all left rest passed new c h cut (q, is, test) pushed start =
-    written_risen known all left rest passed new c q h cut test
+test_risen known plain all left rest passed new c h cut (q, is, test) pushed start =
+    written_risen known plain all left rest passed new c q h cut test
     (λ slots focus addresses ts trees w. ap (λ d. in_turn (next_clause (frame_of slots focus addresses)) ts (map plan_clause_mean (passed ++ d ∷ [])) trees) (sym is))
     (pushed ∙ ap (λ d. (rest ++ reverse passed) ++ d ∷ []) is) start
 
-pub risen_long : (known : List Held) (all left rest passed new : List PlanClause) (c d : PlanClause) → TakenOff known all left passed →
+pub risen_long : (known : List Held) (plain : Bool) (all left rest passed new : List PlanClause) (c d : PlanClause) → TakenOff known plain all left passed →
     left ≡ rest ++ c ∷ [] → new ≡ (rest ++ reverse passed) ++ d ∷ [] → length new ≡ length all
-risen_long known all left rest passed new c d h cut pushed =
+risen_long known plain all left rest passed new c d h cut pushed =
     let was = ap length (sym h.whole ∙ ap (λ l. l ++ reverse passed) cut) in
     let now = ap length pushed in
     let a = length-append (rest ++ reverse passed) (d ∷ []) in
@@ -360,20 +418,20 @@ risen_long known all left rest passed new c d h cut pushed =
     omega (arith, was, now, a, b, e, g)
 
 -- one that stays
-pub all_unmoved : (known : List Held) (all left rest passed new : List PlanClause) (c : PlanClause) → TakenOff known all left passed →
+pub all_unmoved : (known : List Held) (plain : Bool) (all left rest passed new : List PlanClause) (c : PlanClause) → TakenOff known plain all left passed →
     left ≡ rest ++ c ∷ [] → new ≡ (rest ++ c ∷ []) ++ reverse passed → new ≡ all
-all_unmoved known all left rest passed new c h cut pushed =
+all_unmoved known plain all left rest passed new c h cut pushed =
     pushed ∙ ap (λ l. l ++ reverse passed) (sym cut) ∙ h.whole
 
 -- either of both
-pub taken_back : (known : List Held) (all left rest passed new : List PlanClause) (c : PlanClause) → TakenOff known all left passed →
+pub taken_back : (known : List Held) (plain : Bool) (all left rest passed new : List PlanClause) (c : PlanClause) → TakenOff known plain all left passed →
     left ≡ rest ++ c ∷ [] → TakesBack known rest passed c new → ((start : ℕ) → SameRest start known all new) × (length new ≡ length all)
-taken_back known all left rest passed new c h cut (inl stays) =
-    let same = all_unmoved known all left rest passed new c h cut stays in
+taken_back known plain all left rest passed new c h cut (inl stays) =
+    let same = all_unmoved known plain all left rest passed new c h cut stays in
     (λ start. same_rest start known all new same, ap length same)
-taken_back known all left rest passed new c h cut (inr (q, test, same, pushed)) = (
-  λ start. written_risen known all left rest passed new c q h cut test same pushed start,
-  risen_long known all left rest passed new c (clause.Where q) h cut pushed,
+taken_back known plain all left rest passed new c h cut (inr (q, test, same, pushed)) = (
+  λ start. written_risen known plain all left rest passed new c q h cut test same pushed start,
+  risen_long known plain all left rest passed new c (clause.Where q) h cut pushed,
 )
 
 -- # The loop

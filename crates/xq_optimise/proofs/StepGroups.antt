@@ -1,5 +1,5 @@
 -- A group join stands for a path whose last step has a predicate that compares a key of each node.
-use Rattle.std.proofs.Common.{◌≡◌, ℕ, List, [], ◌∷◌, ◌++◌, refl, sym, ◌∙◌, subst}
+use Rattle.std.proofs.Common.{ℕ, List, [], ◌∷◌, ◌++◌, refl, sym, ◌∙◌, subst}
 use Rattle.xq_trees.specs.declared.Axis.{Axis}
 use Rattle.xq_trees.proofs.Lists.{all_append}
 use Rattle.xq_meaning.specs.declared.joins.Join.{Join}

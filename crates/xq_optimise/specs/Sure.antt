@@ -1,6 +1,6 @@
 -- Parts that can't be refused and make no nodes, where the slots are as known (XQuery 3.1, 2.3.4).
 use Rattle.std.proofs.Common.{suc}
-use Rattle.std.specs.Prelude.{◌≡◌, ℕ, List, ◌++◌, map, Bool, true, Option, Some, Ok}
+use Rattle.std.specs.Prelude.{◌≡◌, ℕ, List, ◌++◌, map, Bool, true, false, Option, Some, Ok}
 use Rattle.std.specs.List.{AllByRecursion}
 use Rattle.xq_atoms.specs.Text.{Text}
 use Rattle.xq_trees.specs.Tree.{Tree}
@@ -61,6 +61,29 @@ pub record IsTest (known : List Held) (p : Plan) : Type 0 where
 -- the focus is a node
 abbrev pub on_node : Place → ℕ → ℕ → Focus
 on_node place position last = record { item = Node place; position = position; last = last }
+
+-- two focuses: any, or two on the same node
+abbrev pub AreAlike : Bool → Option Focus → Option Focus → Type 0
+AreAlike false focus other = Unit {0}
+AreAlike true focus other =
+    (place : Place) × (position : ℕ) × (last : ℕ) × (also : ℕ) × (count : ℕ)
+    × (focus ≡ Some (on_node place position last)) × (other ≡ Some (on_node place also count))
+
+-- the value is the same with such focuses
+abbrev pub IgnoresBy : Bool → Plan → Type 0
+IgnoresBy at_node p =
+    (slots : Slots) (focus other : Option Focus) → AreAlike at_node focus other →
+    (addresses : List Text) (trees : List Tree) →
+    plan_mean p (frame_of slots focus addresses) trees
+    ≡ plan_mean p (frame_of slots other addresses) trees
+
+-- with a node in focus the value is the same, whatever the position
+abbrev pub IgnoresPosition : Plan → Type 0
+IgnoresPosition p =
+    (slots : Slots) (addresses : List Text) (trees : List Tree) (place : Place)
+    (position last also count : ℕ) →
+    plan_mean p (frame_of slots (Some (on_node place position last)) addresses) trees
+    ≡ plan_mean p (frame_of slots (Some (on_node place also count)) addresses) trees
 
 -- with a node in focus, the part has this truth, by the node and its position, also as a predicate,
 -- and leaves the trees as they are

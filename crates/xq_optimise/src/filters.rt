@@ -51,7 +51,7 @@ fn first_scans(alloc: Global, plan: &Plan) -> Result<Option<Items<(Axis, Test)>>
 }
 
 /// The scans that lead from the item in focus to what a part gives.
-fn focus_scans(alloc: Global, plan: &Plan) -> Result<Option<Items<(Axis, Test)>>, AllocError>
+pub fn focus_scans(alloc: Global, plan: &Plan) -> Result<Option<Items<(Axis, Test)>>, AllocError>
     ensures { IfOk result (λ found. IfSome found (λ scans. LeadsTo scans plan.now)) }
 {
     let Plan::Path(start, steps) = plan else {

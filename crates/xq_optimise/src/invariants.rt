@@ -1,6 +1,6 @@
 //! Predicates that compare with a part that is the same at each item: it is evaluated once, before
 //! all of them, and not at each (XQuery 3.1, sections 2.3.4, 3.3.2, 3.3.3 and 3.12.3).
-ghost use Rattle.std.specs.Prelude.{◌≡◌, ◌∷◌, ◌++◌, [], List, IfOk, OnOk, length, reverse, true};
+ghost use Rattle.std.specs.Prelude.{◌≡◌, ◌∷◌, ◌++◌, [], List, IfOk, IfSome, OnOk, length, reverse, true};
 ghost use Rattle.std.specs.List.{AllByRecursion};
 ghost use Rattle.xq_meaning.specs.declared.plans.Plan.{Plan as PlanLem};
 ghost use Rattle.xq_meaning.specs.declared.plans.Plan.TheVariants as plan_of;
@@ -8,12 +8,22 @@ ghost use Rattle.xq_optimise.specs.Same.{GivesSame};
 ghost use Rattle.xq_optimise.specs.Sure.{IgnoresFocus};
 ghost use Rattle.xq_optimise.specs.declared.held.Held.TheVariants.{Nodes};
 ghost use Rattle.xq_optimise.specs.declared.invariants.Lifted.TheVariants as lifted_of;
-ghost use Rattle.xq_optimise.specs.private.Invariants.{IsLifted, LiftsTo, LiftsFirst, let_in, only_if};
+ghost use Rattle.xq_optimise.specs.private.Invariants.{
+  IsLifted,
+  IsNear,
+  IsNearBy,
+  LiftsTo,
+  LiftsFirst,
+  first_with,
+  let_in,
+  only_if,
+};
 ghost use Rattle.xq_optimise.specs.private.Joins.{IsOutside};
 ghost use Rattle.xq_optimise.specs.private.Parts.{IsHeld};
 
 use crate::comparisons::spliced_after;
-use crate::focus::ignores_focus;
+use crate::copies::copied;
+use crate::focus::{ignores_focus, ignores_position};
 use crate::held::Held;
 use crate::kinds::{gives_nodes, has_one, held_by};
 use crate::lists::reversed;
@@ -27,8 +37,9 @@ use xq_meaning::{Operator, Plan, PlanClause};
 /// A predicate that compares with a part that is the same at each item.
 #[derive(Drop)]
 pub enum Lifted {
-    /// The part, and the predicate, which reads the value of the part in a slot.
-    Part(Plan, Plan),
+    /// What is evaluated before the part, the part, and the predicate, which reads the value of the
+    /// part in a slot.
+    Part(Plan, Plan, Plan),
     /// No such predicate.
     Other(Plan),
 }
@@ -56,7 +67,7 @@ fn is_at_hand(known: &[Held], plan: &Plan) -> bool {
 }
 
 /// Whether the part is a key that joins compare: what is at hand, or its string or its atoms.
-fn is_key(known: &[Held], plan: &Plan) -> bool {
+pub fn is_key(known: &[Held], plan: &Plan) -> bool {
     let Plan::Call(function, parts) = plan else {
         return is_at_hand(known, plan);
     };
@@ -70,7 +81,7 @@ fn is_key(known: &[Held], plan: &Plan) -> bool {
     }
 }
 
-/// Whether the part is worth to be evaluated once, and gives the same whatever the focus is.
+/// Whether it pays to evaluate the part once, and it gives the same whatever the focus is.
 fn is_invariant(known: &[Held], plan: &Plan) -> bool
     ensures { result ≡ true → IgnoresFocus plan.now }
 {
@@ -79,20 +90,36 @@ fn is_invariant(known: &[Held], plan: &Plan) -> bool
 
 // # Predicates
 
+/// What is evaluated before a right side that is taken out: nothing where the left side can't be
+/// refused, else the left side, where it is the same whatever the position is.
+fn near_part(alloc: Global, early: bool, left: &Plan) -> Result<Option<Plan>, AllocError>
+    ensures { IfOk result (λ found. IfSome found (λ near.
+        IsNear left.now near × IsNearBy early near)) }
+{
+    if finds_nodes(left) {
+        return Ok(Some(Plan::Sequence(Items::new(alloc))));
+    }
+    if early && ignores_position(left) {
+        return copied(alloc, left);
+    }
+    Ok(None)
+}
+
 /// The predicate that reads the value of the right side in a slot.
 fn with_right(
     alloc: Global,
     slot: usize,
+    near: Plan,
     left: Boxed<Plan>,
     operator: Operator,
     right: Plan,
 ) -> Result<Lifted, AllocError>
-    ensures { IfOk result (λ found. found ≡ lifted_of.Part right
+    ensures { IfOk result (λ found. found ≡ lifted_of.Part near right
         (plan_of.Chain left ((operator, plan_of.Slot slot) ∷ []))) }
 {
     let mut rest = Items::new(alloc);
     rest.push((operator, Plan::Slot(slot)))?;
-    Ok(Lifted::Part(right, Plan::Chain(left, rest)))
+    Ok(Lifted::Part(near, right, Plan::Chain(left, rest)))
 }
 
 /// The predicate that reads the value of the left side in a slot.
@@ -103,13 +130,14 @@ fn with_left(
     operator: Operator,
     right: Plan,
 ) -> Result<Lifted, AllocError>
-    ensures { IfOk result (λ found. found ≡ lifted_of.Part left
+    ensures { IfOk result (λ found. found ≡ lifted_of.Part (plan_of.Sequence []) left
         (plan_of.Chain (plan_of.Slot slot) ((operator, right) ∷ []))) }
 {
     let mut rest = Items::new(alloc);
     rest.push((operator, right))?;
     let first = Boxed::new(alloc, Plan::Slot(slot))?;
-    Ok(Lifted::Part(left.into_inner(), Plan::Chain(first, rest)))
+    let near = Plan::Sequence(Items::new(alloc));
+    Ok(Lifted::Part(near, left.into_inner(), Plan::Chain(first, rest)))
 }
 
 /// The predicate as it is.
@@ -127,11 +155,35 @@ fn with_neither(
     Ok(Lifted::Other(Plan::Chain(left, rest)))
 }
 
-/// What a comparison of two sides is found to be. The right side may be taken out where the left one
-/// can't be refused, the left one always, since it is evaluated first.
+/// What a comparison is found to be whose right side may be taken out, where the first item may be
+/// tested early or not.
+fn lifted_right(
+    alloc: Global,
+    known: &[Held],
+    early: bool,
+    left: Boxed<Plan>,
+    operator: Operator,
+    right: Plan,
+) -> Result<Lifted, AllocError>
+    requires left { IsOutside (length known.now) left }
+    requires right { IsOutside (length known.now) right }
+    requires free { IgnoresFocus right }
+    ensures { IfOk result (λ found.
+        LiftsTo known.now early (plan_of.Chain left ((operator, right) ∷ [])) found) }
+{
+    let slot = known.len() + 1;
+    match near_part(alloc, early, left.get())? {
+        Some(near) => with_right(alloc, slot, near, left, operator, right),
+        None => with_neither(alloc, left, operator, right),
+    }
+}
+
+/// What a comparison of two sides is found to be. The left side, which is evaluated first, is taken
+/// out rather than the right one.
 fn lifted_sides(
     alloc: Global,
     known: &[Held],
+    early: bool,
     left: Boxed<Plan>,
     operator: Operator,
     right: Plan,
@@ -139,14 +191,13 @@ fn lifted_sides(
     requires left { IsOutside (length known.now) left }
     requires right { IsOutside (length known.now) right }
     ensures { IfOk result (λ found.
-        LiftsTo known.now (plan_of.Chain left ((operator, right) ∷ [])) found) }
+        LiftsTo known.now early (plan_of.Chain left ((operator, right) ∷ [])) found) }
 {
-    let slot = known.len() + 1;
-    if finds_nodes(left.get()) && is_invariant(known, &right) {
-        return with_right(alloc, slot, left, operator, right);
-    }
     if is_invariant(known, left.get()) {
-        return with_left(alloc, slot, left, operator, right);
+        return with_left(alloc, known.len() + 1, left, operator, right);
+    }
+    if is_invariant(known, &right) {
+        return lifted_right(alloc, known, early, left, operator, right);
     }
     with_neither(alloc, left, operator, right)
 }
@@ -155,15 +206,16 @@ fn lifted_sides(
 fn lifted_pair(
     alloc: Global,
     known: &[Held],
+    early: bool,
     left: Boxed<Plan>,
     operator: Operator,
     right: Plan,
 ) -> Result<Lifted, AllocError>
     ensures { IfOk result (λ found.
-        LiftsTo known.now (plan_of.Chain left ((operator, right) ∷ [])) found) }
+        LiftsTo known.now early (plan_of.Chain left ((operator, right) ∷ [])) found) }
 {
     if reads_outside(known.len(), left.get()) && reads_outside(known.len(), &right) {
-        lifted_sides(alloc, known, left, operator, right)
+        lifted_sides(alloc, known, early, left, operator, right)
     } else {
         with_neither(alloc, left, operator, right)
     }
@@ -173,16 +225,17 @@ fn lifted_pair(
 fn lifted_chain(
     alloc: Global,
     known: &[Held],
+    early: bool,
     first: Boxed<Plan>,
     rest: Items<(Operator, Plan)>,
 ) -> Result<Lifted, AllocError>
-    ensures { IfOk result (λ found. LiftsTo known.now (plan_of.Chain first rest) found) }
+    ensures { IfOk result (λ found. LiftsTo known.now early (plan_of.Chain first rest) found) }
 {
     let mut before = rest;
     match before.pop() {
         Some((operator, last)) => {
             if before.is_empty() {
-                return lifted_pair(alloc, known, first, operator, last);
+                return lifted_pair(alloc, known, early, first, operator, last);
             }
             before.push((operator, last))?;
             Ok(Lifted::Other(Plan::Chain(first, before)))
@@ -192,32 +245,36 @@ fn lifted_chain(
 }
 
 /// What a predicate is found to be.
-fn lift(alloc: Global, known: &[Held], predicate: Plan) -> Result<Lifted, AllocError>
-    ensures { IfOk result (λ found. LiftsTo known.now predicate found) }
+fn lift(alloc: Global, known: &[Held], early: bool, predicate: Plan) -> Result<Lifted, AllocError>
+    ensures { IfOk result (λ found. LiftsTo known.now early predicate found) }
 {
     match predicate {
-        Plan::Chain(first, rest) => lifted_chain(alloc, known, first, rest),
+        Plan::Chain(first, rest) => lifted_chain(alloc, known, early, first, rest),
         other => Ok(Lifted::Other(other)),
     }
 }
 
-/// A part that may be taken out, and the predicates.
+/// A part that may be taken out, with what is evaluated before it, and the predicates.
 #[derive(Drop)]
 pub struct LiftedFirst {
-    pub part: Option<Plan>,
+    pub parts: Option<(Plan, Plan)>,
     pub predicates: Items<Plan>,
 }
 
 /// The first predicate, and then the others, which stand from the last to the first.
-fn first_and(part: Option<Plan>, first: Plan, others: Vec<Plan>) -> Result<LiftedFirst, AllocError>
-    ensures { IfOk result (λ found. (found.part ≡ part)
+fn first_and(
+    parts: Option<(Plan, Plan)>,
+    first: Plan,
+    others: Vec<Plan>,
+) -> Result<LiftedFirst, AllocError>
+    ensures { IfOk result (λ found. (found.parts ≡ parts)
         × (found.predicates ≡ first ∷ reverse others.items)) }
 {
     let mut left = others;
     left.push(first)?;
     left.reverse();
     Ok(LiftedFirst {
-        part,
+        parts,
         predicates: Items::from_vec(left),
     })
 }
@@ -226,20 +283,21 @@ fn first_and(part: Option<Plan>, first: Plan, others: Vec<Plan>) -> Result<Lifte
 pub fn lifted_first(
     alloc: Global,
     known: &[Held],
+    early: bool,
     predicates: Items<Plan>,
 ) -> Result<LiftedFirst, AllocError>
     requires { AllByRecursion (IsOutside (length known.now)) predicates }
     ensures { IfOk result (λ found.
-        LiftsFirst known.now predicates found.part found.predicates) }
+        LiftsFirst known.now early predicates found.parts found.predicates) }
 {
     let mut left = reversed(alloc, predicates)?;
     match left.pop() {
-        Some(first) => match lift(alloc, known, first)? {
-            Lifted::Part(part, reads) => first_and(Some(part), reads, left),
+        Some(first) => match lift(alloc, known, early, first)? {
+            Lifted::Part(near, part, reads) => first_and(Some((near, part)), reads, left),
             Lifted::Other(first) => first_and(None, first, left),
         },
         None => Ok(LiftedFirst {
-            part: None,
+            parts: None,
             predicates: Items::new(alloc),
         }),
     }
@@ -280,17 +338,34 @@ fn where_some(alloc: Global, test: Plan, part: Plan) -> Result<Plan, AllocError>
     ))
 }
 
-/// The whole, after the items and, where the test holds, the value of the part.
-pub fn after_both(
-    alloc: Global,
-    items: Plan,
-    test: Plan,
-    part: Plan,
-    whole: Plan,
-) -> Result<Plan, AllocError>
-    ensures { IfOk result (λ found. found ≡ let_in items (let_in (only_if test part) whole)) }
+/// The first item that a part gives, and with it in focus the value of another part.
+fn first_and_near(alloc: Global, found: Plan, near: Plan) -> Result<Plan, AllocError>
+    ensures { IfOk result (λ test. test ≡ first_with found near) }
 {
-    let value = where_some(alloc, test, part)?;
+    let mut all = Items::new(alloc);
+    all.push(found)?;
+    let mut both = Items::new(alloc);
+    both.push(Plan::ContextItem)?;
+    both.push(near)?;
+    let mut parts = Items::new(alloc);
+    parts.push(Plan::Sequence(both))?;
+    let first = Boxed::new(alloc, Plan::Call(Function::Head, all))?;
+    Ok(Plan::Map(first, parts))
+}
+
+/// The part where some items are found, or nothing. Another part is evaluated before it, with the
+/// first of these in focus.
+pub fn where_found(alloc: Global, found: Plan, near: Plan, part: Plan) -> Result<Plan, AllocError>
+    ensures { IfOk result (λ value. value ≡ only_if (first_with found near) part) }
+{
+    let test = first_and_near(alloc, found, near)?;
+    where_some(alloc, test, part)
+}
+
+/// The whole, after the items and a value.
+pub fn after_both(alloc: Global, items: Plan, value: Plan, whole: Plan) -> Result<Plan, AllocError>
+    ensures { IfOk result (λ after. after ≡ let_in items (let_in value whole)) }
+{
     let inner = let_value(alloc, value, whole)?;
     let_value(alloc, items, inner)
 }
@@ -315,11 +390,12 @@ fn with_part(
     alloc: Global,
     known: &mut Vec<Held>,
     start: Boxed<Plan>,
+    near: Plan,
     part: Plan,
     predicates: Items<Plan>,
 ) -> Result<Plan, AllocError>
     ensures stands { IfOk result (λ found. (p : PlanLem) (q : PlanLem) (more : List PlanLem)
-        → predicates ≡ q ∷ more → IsLifted known.old.items p part q
+        → predicates ≡ q ∷ more → IsLifted known.old.items near p part q
         → AllByRecursion (IsOutside (length known.old.items)) more
         → IsHeld known.old.items Nodes start
         → GivesSame known.old.items (plan_of.Filter start (p ∷ more)) found) }
@@ -327,12 +403,13 @@ fn with_part(
 {
     let slot = known.len();
     let items = held_by(known, start.get());
-    let value = held_by(known, &part);
+    let held = held_by(known, &part);
+    let value = where_found(alloc, Plan::Slot(slot), near, part)?;
     known.push(items)?;
-    known.push(value)?;
+    known.push(held)?;
     let whole = kept_in(alloc, known, slot, predicates)?;
     known.truncate(slot);
-    after_both(alloc, start.into_inner(), Plan::Slot(slot), part, whole)
+    after_both(alloc, start.into_inner(), value, whole)
 }
 
 /// What predicates keep of a part, or a plan that gives the same.
@@ -348,9 +425,9 @@ fn kept_of(
         GivesSame known.old.items (plan_of.Filter start predicates) found) }
     ensures kept { OnOk result (known.new.items ≡ known.old.items) }
 {
-    let LiftedFirst { part, predicates } = lifted_first(alloc, known, predicates)?;
-    match part {
-        Some(part) => with_part(alloc, known, start, part, predicates),
+    let LiftedFirst { parts, predicates } = lifted_first(alloc, known, true, predicates)?;
+    match parts {
+        Some((near, part)) => with_part(alloc, known, start, near, part, predicates),
         None => Ok(Plan::Filter(start, predicates)),
     }
 }

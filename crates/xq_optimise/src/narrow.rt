@@ -47,7 +47,7 @@ fn step_part(
 }
 
 /// The part to which these scans lead from the item in focus.
-fn focus_part(alloc: Global, scans: Items<(Axis, Test)>) -> Result<Option<Plan>, AllocError>
+pub fn focus_part(alloc: Global, scans: Items<(Axis, Test)>) -> Result<Option<Plan>, AllocError>
     ensures { IfOk result (λ found. IfSome found (λ part. LeadsTo scans part)) }
 {
     let mut rest = reversed(alloc, scans)?;
@@ -94,7 +94,7 @@ fn focus_test(alloc: Global, known: &[Held], test: &Plan) -> Result<Option<Plan>
 }
 
 /// A `for` over these items.
-fn for_each(range: Plan) -> PlanClause
+pub fn for_each(range: Plan) -> PlanClause
     ensures { result ≡ clause_of.For allowing.No false range }
 {
     PlanClause::For(AllowingEmpty::No, false, range)

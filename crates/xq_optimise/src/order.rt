@@ -2,13 +2,21 @@
 //! before it, where the two are a join (XQuery 3.1, section 3.12).
 ghost use Rattle.std.specs.Prelude.{◌≡◌, ◌≤◌, ◌++◌, ◌∷◌, [], ℕ, length, reverse, true, IfOk, OnOk};
 ghost use Rattle.std.specs.List.{AllByRecursion};
-ghost use Rattle.xq_optimise.specs.private.Order.{IsPassed, Rises, SameRest, SameTurns, TakesBack};
+ghost use Rattle.xq_optimise.specs.private.Order.{
+  IsEach,
+  IsOver,
+  IsPassed,
+  Rises,
+  SameRest,
+  SameTurns,
+  TakesBack,
+};
 ghost use Rattle.xq_optimise.specs.private.Parts as parts;
 
 use crate::held::Held;
 use crate::kinds::{held_by, of_each};
 use crate::lists::reversed;
-use crate::narrow::narrowed;
+use crate::narrow::{drops_empty, narrowed};
 use crate::positions::compared;
 use crate::scopes::{bind, forget};
 use crate::sure::{is_equality, is_nodes, is_test};
@@ -40,6 +48,22 @@ fn is_passed(known: &[Held], clause: &PlanClause) -> bool
         PlanClause::Let(value) => is_nodes(known, value),
         _ => false,
     }
+}
+
+/// Whether the clause is a `for` over nodes, which a test may as well come before.
+fn is_each(known: &[Held], clause: &PlanClause) -> bool
+    ensures { result ≡ true → IsEach known.now clause.now }
+{
+    let PlanClause::For(empties, at, range) = clause else {
+        return false;
+    };
+    if *at {
+        return false;
+    }
+    if !drops_empty(*empties) {
+        return false;
+    }
+    is_nodes(known, range)
 }
 
 /// The clauses that are left, the last first, after others that come before them.
@@ -108,9 +132,43 @@ fn with_written(
 
 /// Whether a test that goes over so many clauses may go over one more.
 fn may_pass(known: &[Held], passed: &[PlanClause], next: &PlanClause) -> bool
-    ensures { result ≡ true → IsPassed known.now next.now }
+    ensures { result ≡ true → IsOver known.now next.now }
 {
-    passed.len() < MOST && is_passed(known, next)
+    if passed.len() >= MOST {
+        return false;
+    }
+    if is_passed(known, next) {
+        return true;
+    }
+    is_each(known, next)
+}
+
+/// Whether clauses that were gone over are no `for`, with one more.
+fn stays_plain(known: &[Held], plain: bool, next: &PlanClause) -> bool
+    ensures { result ≡ true → (plain ≡ true) × IsPassed known.now next.now }
+{
+    plain && is_passed(known, next)
+}
+
+/// The clauses that are left, with one before those that were gone over, or behind them. Where these
+/// are no `for`, its variables may be written out.
+fn stopped(
+    alloc: Global,
+    known: &[Held],
+    plain: bool,
+    left: Vec<PlanClause>,
+    passed: Vec<PlanClause>,
+    next: PlanClause,
+) -> Result<Vec<PlanClause>, AllocError>
+    requires { plain ≡ true → AllByRecursion (IsPassed known.now) passed.items }
+    ensures { IfOk result (λ after.
+        TakesBack known.now left.items passed.items next after.items) }
+{
+    if plain {
+        with_written(alloc, known, left, passed, next)
+    } else {
+        unmoved(left, passed, next)
+    }
 }
 
 /// The clauses that are left, the last first: first an equality that may come before those that
@@ -126,13 +184,15 @@ fn risen(
 {
     let mut left = left;
     let mut passed = Vec::new(alloc);
+    let mut plain = true;
     while let Some(next) = left.pop() {
         if is_rising(known, &next) {
             return with_first(alloc, left, passed, next);
         }
         if !may_pass(known, passed.as_slice(), &next) {
-            return with_written(alloc, known, left, passed, next);
+            return stopped(alloc, known, plain, left, passed, next);
         }
+        plain = stays_plain(known, plain, &next);
         passed.push(next)?;
     }
     put_back(left, passed)

@@ -14,6 +14,7 @@ ghost use Rattle.xq_optimise.specs.private.Positions.{TestsPosition};
 use crate::held::Held;
 use crate::kinds::are_scans;
 use crate::lists::reversed;
+use crate::plain_tests::all_plain;
 use crate::positions::position_test;
 use crate::sure::{as_comparison, is_nodes, is_slot_texts};
 use sqlite_items::Items;
@@ -245,7 +246,7 @@ fn with_parted(found: Items<Plan>, parts: Conjuncts) -> Result<Items<Plan>, Allo
 }
 
 /// The predicates with one more.
-fn pushed(found: Items<Plan>, next: Plan) -> Result<Items<Plan>, AllocError>
+pub fn pushed(found: Items<Plan>, next: Plan) -> Result<Items<Plan>, AllocError>
     ensures { IfOk result (λ after. after ≡ found ++ next ∷ []) }
 {
     let mut after = found;
@@ -308,8 +309,8 @@ fn have_conjunction(predicates: &[Plan]) -> bool {
     false
 }
 
-/// Predicates that keep the same of any nodes.
-pub fn spliced(
+/// Predicates that keep the same of any nodes, without a conjunction that can't be refused.
+fn split_all(
     alloc: Global,
     known: &[Held],
     predicates: Items<Plan>,
@@ -325,4 +326,17 @@ pub fn spliced(
         found = with_predicate(alloc, known, found, next)?;
     }
     Ok(found)
+}
+
+/// Predicates that keep the same of any nodes: no conjunction that can't be refused, and each test in
+/// its plain form.
+pub fn spliced(
+    alloc: Global,
+    known: &[Held],
+    predicates: Items<Plan>,
+) -> Result<Items<Plan>, AllocError>
+    ensures { IfOk result (λ found. sure.SamePredicates known.now predicates found) }
+{
+    let split = split_all(alloc, known, predicates)?;
+    all_plain(alloc, known, split)
 }

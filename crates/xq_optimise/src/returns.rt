@@ -2,7 +2,7 @@
 //! clause (XQuery 3.1, sections 3.12.5, 3.12.9 and 3.14).
 ghost use Rattle.std.specs.Prelude.{◌≡◌, [], ℕ, true, IfOk};
 ghost use Rattle.xq_meaning.specs.declared.plans.Plan.TheVariants as plan_of;
-ghost use Rattle.xq_optimise.specs.private.FlworParts.{MayStand, StandsForFlwor};
+ghost use Rattle.xq_optimise.specs.private.FlworParts.{IsSlot, MayStand, StandsForFlwor};
 
 use crate::group_returns::with_group;
 use crate::held::Held;
@@ -23,11 +23,28 @@ fn is_nothing(plan: &Plan) -> bool
     }
 }
 
-/// Whether the test of a conditional with these branches may as well be a `where`.
+/// Whether the part is a slot.
+fn is_slot(plan: &Plan) -> bool
+    ensures { result ≡ true → IsSlot plan.now }
+{
+    match plan {
+        Plan::Slot(_) => true,
+        _ => false,
+    }
+}
+
+/// Whether the test of a conditional with these branches may as well be a `where`: one that can't be
+/// refused, or any where a slot is given, since that is never refused.
 fn may_stand(known: &[Held], test: &Plan, positive: &Plan, negative: &Plan) -> bool
     ensures { result ≡ true → MayStand known.now test.now positive.now negative.now }
 {
-    is_test(known, test) && reads_outside(known.len(), positive) && is_nothing(negative)
+    if !is_nothing(negative) {
+        return false;
+    }
+    if is_slot(positive) {
+        return true;
+    }
+    is_test(known, test) && reads_outside(known.len(), positive)
 }
 
 /// A FLWOR that returns a conditional, or one that gives the same with the test as a `where`.

@@ -1,18 +1,19 @@
 //! Steps whose first predicate compares with a part that is the same at each node: it is evaluated
 //! once, before all steps (XQuery 3.1, sections 2.3.4, 3.3.2 and 3.3.3).
-ghost use Rattle.std.specs.Prelude.{◌≡◌, ◌∷◌, ◌++◌, [], List, IfOk, OnOk, length, true};
+ghost use Rattle.std.specs.Prelude.{◌≡◌, ◌∷◌, ◌++◌, [], List, IfOk, OnOk, length, false, true};
 ghost use Rattle.std.specs.List.{AllByRecursion};
 ghost use Rattle.xq_meaning.specs.declared.plans.Plan.{Plan as PlanLem};
 ghost use Rattle.xq_meaning.specs.declared.plans.Plan.TheVariants as plan_of;
 ghost use Rattle.xq_meaning.specs.declared.plans.PlanStep.TheVariants as step_of;
+ghost use Rattle.xq_meaning.specs.Steps.{is_reverse};
 ghost use Rattle.xq_optimise.specs.Same.{GivesSame};
 ghost use Rattle.xq_optimise.specs.declared.held.Held.TheVariants.{Nodes};
-ghost use Rattle.xq_optimise.specs.private.Invariants.{IsLifted};
+ghost use Rattle.xq_optimise.specs.private.Invariants.{IsFirstTested, IsLifted, first_with, only_if};
 ghost use Rattle.xq_optimise.specs.private.Joins.{IsOutside};
 ghost use Rattle.xq_optimise.specs.private.Parts.{IsHeld};
 
 use crate::held::Held;
-use crate::invariants::{LiftedFirst, after_both, lifted_first, may_lift};
+use crate::invariants::{LiftedFirst, after_both, lifted_first, may_lift, where_found};
 use crate::kinds::{end_in_step, gives_nodes, held_by};
 use crate::scanned::{self, ends_in_double_slash};
 use sqlite_items::{Boxed, Items};
@@ -86,18 +87,60 @@ fn found_from(alloc: Global, slot: usize, axis: Axis, test: &Test) -> Result<Pla
     Ok(Plan::Map(Boxed::new(alloc, Plan::Slot(slot))?, steps))
 }
 
+/// The value of a part where such a step finds something, after that of another part.
+fn value_found(
+    alloc: Global,
+    slot: usize,
+    axis: Axis,
+    test: &Test,
+    near: Plan,
+    part: Plan,
+) -> Result<Plan, AllocError>
+    ensures { IfOk result (λ found. found ≡ only_if (first_with (plan_of.Map (plan_of.Slot slot)
+        (plan_of.Step axis test.now [] ∷ [])) near) part) }
+{
+    let guard = found_from(alloc, slot, axis, test)?;
+    where_found(alloc, guard, near, part)
+}
+
+/// A step with these predicates from each node in the next slot, where that and the one after it
+/// hold this.
+fn step_after(
+    alloc: Global,
+    known: &mut Vec<Held>,
+    items: Held,
+    value: Held,
+    axis: Axis,
+    test: Test,
+    predicates: Items<Plan>,
+) -> Result<Plan, AllocError>
+    ensures same { IfOk result (λ found.
+        GivesSame ((known.old.items ++ items ∷ []) ++ value ∷ [])
+        (plan_of.Path (plan_of.Slot (length known.old.items))
+        (step_of.Each (plan_of.Step axis test predicates) ∷ [])) found) }
+    ensures kept { OnOk result (known.new.items ≡ known.old.items) }
+{
+    let slot = known.len();
+    known.push(items)?;
+    known.push(value)?;
+    let whole = step_from(alloc, known, slot, axis, test, predicates)?;
+    known.truncate(slot);
+    Ok(whole)
+}
+
 /// A path whose last step has these predicates, where a part is taken out of the first of them.
 fn with_part(
     alloc: Global,
     known: &mut Vec<Held>,
     items: Plan,
+    near: Plan,
     part: Plan,
     axis: Axis,
     test: Test,
     predicates: Items<Plan>,
 ) -> Result<Plan, AllocError>
     ensures stands { IfOk result (λ found. (p : PlanLem) (q : PlanLem) (more : List PlanLem)
-        → predicates ≡ q ∷ more → IsLifted known.old.items p part q
+        → predicates ≡ q ∷ more → IsLifted known.old.items near p part q → IsFirstTested axis near
         → AllByRecursion (IsOutside (length known.old.items)) more
         → IsHeld known.old.items Nodes items → GivesSame known.old.items
         (plan_of.Path items (step_of.Each (plan_of.Step axis test (p ∷ more)) ∷ [])) found) }
@@ -105,13 +148,24 @@ fn with_part(
 {
     let slot = known.len();
     let held = held_by(known, &items);
-    let value = held_by(known, &part);
-    let guard = found_from(alloc, slot, axis, &test)?;
-    known.push(held)?;
-    known.push(value)?;
-    let whole = step_from(alloc, known, slot, axis, test, predicates)?;
-    known.truncate(slot);
-    after_both(alloc, items, guard, part, whole)
+    let also = held_by(known, &part);
+    let value = value_found(alloc, slot, axis, &test, near, part)?;
+    let whole = step_after(alloc, known, held, also, axis, test, predicates)?;
+    after_both(alloc, items, value, whole)
+}
+
+/// Whether the axis goes forward.
+fn is_forward(axis: Axis) -> bool
+    ensures { result ≡ true → is_reverse axis ≡ false }
+{
+    match axis {
+        Axis::Parent => false,
+        Axis::Ancestor => false,
+        Axis::AncestorOrSelf => false,
+        Axis::Preceding => false,
+        Axis::PrecedingSibling => false,
+        _ => true,
+    }
 }
 
 /// A path with a step more, whose predicates read no slot of their own.
@@ -130,11 +184,12 @@ fn with_predicates(
         (before ++ step_of.Each (plan_of.Step axis test predicates) ∷ [])) found) }
     ensures kept { OnOk result (known.new.items ≡ known.old.items) }
 {
-    let LiftedFirst { part, predicates } = lifted_first(alloc, known, predicates)?;
-    match part {
-        Some(part) => {
+    let early = is_forward(axis);
+    let LiftedFirst { parts, predicates } = lifted_first(alloc, known, early, predicates)?;
+    match parts {
+        Some((near, part)) => {
             let items = whole(known, start, before);
-            with_part(alloc, known, items, part, axis, test, predicates)
+            with_part(alloc, known, items, near, part, axis, test, predicates)
         }
         None => {
             let step = PlanStep::Each(Plan::Step(axis, test, predicates));

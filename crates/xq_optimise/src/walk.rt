@@ -5,6 +5,7 @@ ghost use Rattle.xq_optimise.specs.Same.{GivesSame};
 ghost use Rattle.xq_optimise.specs.private.FlworParts.{StandsForFlwor};
 ghost use Rattle.xq_optimise.specs.private.Parts as parts;
 
+use crate::first_tests::with_first_test;
 use crate::group_joins::with_value;
 use crate::held::Held;
 use crate::joins::with_joins;
@@ -18,6 +19,7 @@ use crate::range_joins::with_range;
 use crate::returns::with_return;
 use crate::scopes::{bind, forget};
 use crate::some_pairs::quantified;
+use crate::unused_lets::without_unused;
 use crate::wheres::{pushed, with_tests};
 use crate::{invariants, step_invariants};
 use sqlite_items::{Boxed, Items};
@@ -318,8 +320,10 @@ fn joined(alloc: Global, known: &mut Vec<Held>, plan: Plan) -> Result<Plan, Allo
     match plan {
         Plan::Flwor(list, part) => {
             let outer = known.len();
-            let sorted = arranged(alloc, known, list)?;
-            let joined = with_joins(alloc, outer, sorted)?;
+            let first = with_first_test(alloc, known, list)?;
+            let sorted = arranged(alloc, known, first)?;
+            let used = without_unused(alloc, known, sorted, part.get())?;
+            let joined = with_joins(alloc, outer, used)?;
             Ok(Plan::Flwor(joined, part))
         }
         other => Ok(other),

@@ -19,10 +19,15 @@ use Rattle.xq_optimise.specs.Sure.{SurelyNodes, IsTest}
 use Rattle.xq_optimise.specs.private.Joins.{LeavesTrees, IsOutside}
 use Rattle.xq_optimise.specs.private.Parts.{AllFit, GivesFitting}
 
--- a conditional with this test and these branches may as well be a `where`
+-- a slot
+abbrev pub IsSlot : Plan → Type 0
+IsSlot p = (n : ℕ) × (p ≡ plan.Slot n)
+
+-- a conditional with this test and these branches may as well be a `where`: a test that is never
+-- refused, or a slot that is given
 abbrev pub MayStand : List Held → Plan → Plan → Plan → Type 0
 MayStand known test positive negative =
-    IsTest known test × LeavesTrees positive × (negative ≡ plan.Sequence [])
+    ((IsTest known test × LeavesTrees positive) ⊎ IsSlot positive) × (negative ≡ plan.Sequence [])
 
 -- where so many slots are outside, and the slots of the tuples that come of the clauses are as
 -- known, the plan gives what the FLWOR with these clauses and this part gives

@@ -1,7 +1,8 @@
 -- Clauses that give the same in another order.
-use Rattle.std.specs.Prelude.{◌≡◌, ℕ, List, [], ◌∷◌, ◌++◌, map, reverse, length, Option, Ok, Err, ◌⊎◌}
+use Rattle.std.specs.Prelude.{◌≡◌, ℕ, List, [], ◌∷◌, ◌++◌, map, reverse, length, false, Option, Ok, Err, ◌⊎◌}
 use Rattle.std.specs.List.{AllByRecursion}
 use Rattle.xq_atoms.specs.Text.{Text}
+use Rattle.xq_expressions.specs.declared.operators.AllowingEmpty.TheVariants as allowing
 use Rattle.xq_trees.specs.declared.Axis.{Axis}
 use Rattle.xq_trees.specs.Tree.{Tree}
 use Rattle.xq_trees.specs.Tuples.{Tuple}
@@ -28,6 +29,15 @@ Rises known c = (p : Plan) × (c ≡ clause.Where p) × IsTest known p
 abbrev pub IsPassed : List Held → PlanClause → Type 0
 IsPassed known c =
     Rises known c ⊎ ((p : Plan) × (c ≡ clause.Let p) × SurelyNodes known p × ReadsBelow known p)
+
+-- or each of such nodes for a variable
+abbrev pub IsEach : List Held → PlanClause → Type 0
+IsEach known c =
+    (p : Plan) × (c ≡ clause.For allowing.No false p) × SurelyNodes known p × ReadsBelow known p
+
+-- a clause that any such test may go over
+abbrev pub IsOver : List Held → PlanClause → Type 0
+IsOver known c = IsPassed known c ⊎ IsEach known c
 
 -- from tuples whose slots are as known, other clauses give the same
 abbrev pub SameTurns : ℕ → List Held → List PlanClause → List PlanClause → Type 0

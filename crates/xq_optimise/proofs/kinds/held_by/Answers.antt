@@ -1,6 +1,5 @@
-use Rattle.std.proofs.Common.{List, ap, sym, subst}
+use Rattle.std.proofs.Common.{subst}
 use Rattle.std.specs.List.{AllByRecursion}
-use Rattle.xq_meaning.specs.declared.plans.Plan.{Plan}
 use Rattle.xq_optimise.specs.private.Kinds.{EndsInText, IsString}
 use Rattle.xq_optimise.proofs.KindLaws.{map_held, sequence_held, texts_where}
 use Rattle.xq_optimise.proofs.kinds.held_by.Goals as goal

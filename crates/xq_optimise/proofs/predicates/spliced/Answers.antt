@@ -1,7 +1,8 @@
-use Rattle.xq_optimise.proofs.Splitting.{predicate_next}
+use Rattle.std.proofs.lemmas.Result.{IfOk-weaker}
+use Rattle.xq_optimise.proofs.EqualitiesFirst.{same_then}
 use Rattle.xq_optimise.proofs.predicates.spliced.Goals as goal
 
-pub loop-next-preserved : goal.loop-next-preserved
-loop-next-preserved c =
-    predicate_next c.args.known.now c.args.predicates c.loop-next.left.items c.pop.new.self.items c.loop-next.found c.in_ok-found.found c.in-Some.next
-    c.loop-next.invariant c.in-Some.ensures.items c.in_ok-found.ensures
+pub returns : goal.returns
+returns c =
+    IfOk-weaker c.all_plain.result _ _
+    (λ found h. same_then c.args.known.now c.args.predicates c.in_ok-split.split found c.in_ok-split.ensures h) c.all_plain.ensures

@@ -1,6 +1,6 @@
 use Rattle.std.proofs.Common.{length}
 use Rattle.xq_optimise.proofs.Splitting.{PredicatesLeft}
-use Rattle.xq_optimise.proofs.predicates.spliced.Given as goal
+use Rattle.xq_optimise.proofs.plain_tests.all_plain.Given as goal
 
 abbrev pub invariant-loop-next : goal.invariant-loop-next
 invariant-loop-next l = PredicatesLeft l.known l.fn.predicates l.left.items l.found
