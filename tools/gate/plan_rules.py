@@ -39,6 +39,8 @@ RULES = {
 }
 # The rule that evaluates a part of a predicate first, by the form that has the predicate.
 OF_LIFTED = {"filter": "invariants", "path": "step_invariants"}
+# So many clauses at the end may be left out.
+MOST_LEFT_OUT = 2
 # A form of the optimised plan, and the rule that made it so.
 Marks = list[tuple[Form, str]]
 GENERAL = {"eq": "=", "ne": "!=", "lt": "<", "le": "<=", "gt": ">", "ge": ">="}
@@ -496,13 +498,16 @@ def of_where(before: Form, left: Sequence[Form], values: Sequence[Form],
     return (written, [(it, "written") for it in written]) if written else None
 
 
-def of_clauses(before: Sequence[Form], after: Sequence[Form]) -> Marks | None:
-    """The rules among clauses, in which the joins are written out."""
+def of_clauses(before: Sequence[Form], after: Sequence[Form], left_out: Sequence[Form],
+               ) -> Marks | None:
+    """The rules among clauses, in which the joins are written out, where these are left out."""
     tests = [it for it in after if it.word == "where"]
     others = collections.deque(it for it in after if it.word != "where")
     places, marks, values = list[Form](), Marks(), list[Form]()
     for old in before:
         values += old.parts if old.word == "let" else ()
+        if any(old is it for it in left_out):
+            continue
         found = of_where(old, tests, values) if old.word == "where" else (
             assigned([old], [others.popleft()]) if others else None)
         if found is None:
@@ -517,12 +522,11 @@ def of_clauses(before: Sequence[Form], after: Sequence[Form]) -> Marks | None:
 
 
 def of_used_clauses(before: Sequence[Form], after: Sequence[Form], last: Form) -> Marks | None:
-    """The rules among clauses, of which up to two that nothing reads may have been left out."""
-    lets = [number for number, it in enumerate(before) if it.word == "let"]
-    for count in range(3):
-        left_out = lets[len(lets) - count:] if count <= len(lets) else []
-        used = [it for number, it in enumerate(before) if number not in left_out]
-        found = of_clauses(used, after) if len(left_out) == count else None
+    """The rules among clauses, where up to two that nothing reads may have been left out."""
+    lets = [it for it in before if it.word == "let"]
+    for count in range(min(len(lets), MOST_LEFT_OUT) + 1):
+        left_out = lets[len(lets) - count:]
+        found = of_clauses(before, after, left_out)
         if found is not None:
             return [*found, *((last, "unused_lets") for _ in left_out[:1])]
     return None

@@ -157,7 +157,8 @@ QUERIES = (
     'count(doc("d")//{name}[data(@id) eq "{number}"])',
     "for $x in {path}, $y in {path} let $z := $y/{name} where $y/{other} = $x/{name} return $y/@id",
     "for $x in {path} let $y := $x/{name} let $z := $y return $x/@id",
-    "count(for $x in {path}, $y in {path} let $r := $y/@id let $q := $x/@id where $q = $r return $x)",
+    "count(for $x in {path}, $y in {path} let $r := $y/@id let $q := $x/@id where $q = $r"
+    " return $x)",
     "for $x in {path} return if (xs:integer($x/@id) = count({path})) then $x else ()",
     "for $x in {path}, $y in $x/{name} return if (string($y) = $x/{other}) then $y else ()",
     "for $x in {path}, $y in $x/{name}, $z in $y/{other} where $y/@id = $x/@id return string($z)",
